@@ -1,0 +1,69 @@
+-- Laws of a choice by a test, and the set that proves each return of a chain of early returns. Assumes nothing.
+use mathlib.Core.Path.{_≡_, refl, sym, _∙_}
+use mathlib.Core.Bool.{Bool, true, false, not, _&&_, _||_}
+use Prim.Native.Nat.{ℕ, _≤_, _<_}
+use native.Mathlib.Omega.{arith}
+use borrow.Author.Tests.{lt-ltb, le-ltb, le-leb, lt-leb, eq-eqb, ne-eqb, not-true, not-false}
+use Rattle.wire.specs.Choice.{pick}
+
+module _ {A : Type 0} where
+  pub pick-yes : (t : Bool) (x a b : A) → t ≡ true → x ≡ a → x ≡ pick t a b
+  unfolding pick
+  pick-yes t x a b e h = rw e h
+
+  pub pick-no : (t : Bool) (x a b : A) → t ≡ false → x ≡ b → x ≡ pick t a b
+  unfolding pick
+  pick-no t x a b e h = rw e h
+
+  -- a choice between two that are equal is either
+  pub pick-same : (t : Bool) (a : A) → pick t a a ≡ a
+  unfolding pick
+  pick-same true a = refl
+  pick-same false a = refl
+
+-- a chain of refusals that gave 0: this one did not hold, and the rest gave 0
+pub pick-zero : (t : Bool) (n r : ℕ) → 0 < n → pick t n r ≡ 0 → (t ≡ false) × (r ≡ 0)
+unfolding pick
+pick-zero true n r l e = absurd (omega arith)
+pick-zero false n r l e = (refl, e)
+
+pub pick-le : (t : Bool) (a b m : ℕ) → a ≤ m → b ≤ m → pick t a b ≤ m
+unfolding pick
+pick-le true a b m p q = p
+pick-le false a b m p q = q
+
+-- both parts of a test that holds, and of one of two that does not
+pub and-left : (a b : Bool) → a && b ≡ true → a ≡ true
+and-left true b e = refl
+and-left false b e = e
+
+pub and-right : (a b : Bool) → a && b ≡ true → b ≡ true
+and-right true b e = e
+and-right false b e = cc
+
+pub or-left : (a b : Bool) → a || b ≡ false → a ≡ false
+or-left true b e = e
+or-left false b e = refl
+
+pub or-right : (a b : Bool) → a || b ≡ false → b ≡ false
+or-right true b e = cc
+or-right false b e = e
+
+-- two tests that follow from each other are one
+pub same-test : (a b : Bool) → (a ≡ true → b ≡ true) → (b ≡ true → a ≡ true) → a ≡ b
+same-test true b f g = sym (f refl)
+same-test false true f g = g refl
+same-test false false f g = refl
+
+-- what a call answered, r for the test t, and how its answer was asked for
+pub told : (t r v : Bool) → r ≡ t → r ≡ v → t ≡ v
+told t r v p q = sym p ∙ q
+
+pub told-yes : (t r : Bool) → r ≡ t → not r ≡ false → t ≡ true
+told-yes t r e n = sym e ∙ not-false r n
+
+pub told-no : (t r : Bool) → r ≡ t → not r ≡ true → t ≡ false
+told-no t r e n = sym e ∙ not-true r n
+
+-- what proves each return of a chain of early returns: `search chain`
+pub ruleset chain = (pick-yes, pick-no, told, told-yes, told-no, lt-ltb, le-ltb, le-leb, lt-leb, eq-eqb, ne-eqb)

@@ -1,0 +1,5 @@
+pub mod ChoiceLaws
+pub mod PlaceLaws
+pub mod ByteLaws
+pub mod BufferLaws
+pub mod Unique

@@ -1,0 +1,71 @@
+-- Laws of the questions asked of all numbers below one: a step, an end, and what a yes or a no says of each. Assumes nothing.
+use mathlib.Core.Path.{_≡_, refl, ap₂}
+use mathlib.Core.Logic.{⊎-elim}
+use mathlib.Core.Bool.{Bool, true, false, _&&_, and-false}
+use Prim.Native.Nat.{ℕ, zero, suc, _+_, _≤_, _<_, zero-le}
+use native.Mathlib.Nat.{not-suc-le-zero, le-of-suc-le-suc, eq-or-lt-of-le, le-of-eq}
+use native.Mathlib.Numerals.{add-one}
+use native.Mathlib.Omega.{arith}
+use Rattle.wire.specs.Choice.{pick}
+use Rattle.wire.specs.Places.{every, count}
+use Rattle.wire.proofs.ChoiceLaws.{and-left, and-right, pick-le}
+
+module _ (p : ℕ → Bool) where
+  pub every-none : every p 0 ≡ true
+  unfolding every
+  every-none = refl
+
+  pub every-more : (i : ℕ) → every p i ≡ true → p i ≡ true → every p (i + 1) ≡ true
+  unfolding every
+  every-more i all here = rw add-one (simp (all, here))
+
+  pub every-fails : (i n : ℕ) → i < n → p i ≡ false → every p n ≡ false
+  unfolding every
+  every-fails i zero l e = absurd (not-suc-le-zero l)
+  every-fails i (suc n) l e =
+      ⊎-elim (λ (q : i ≡ n). rw (← q, e) (and-false (every p i))) (λ (m : i < n). rw (every-fails i n m e))
+      (eq-or-lt-of-le (le-of-suc-le-suc l))
+
+  pub every-at : (n k : ℕ) → every p n ≡ true → k < n → p k ≡ true
+  unfolding every
+  every-at zero k t l = absurd (not-suc-le-zero l)
+  every-at (suc n) k t l =
+      ⊎-elim (λ (e : k ≡ n). rw e (and-right (every p n) (p n) t)) (λ (m : k < n). every-at n k (and-left (every p n) (p n) t) m)
+      (eq-or-lt-of-le (le-of-suc-le-suc l))
+
+  pub every-all : (n : ℕ) → ((k : ℕ) → k < n → p k ≡ true) → every p n ≡ true
+  unfolding every
+  every-all zero h = refl
+  every-all (suc n) h = rw (every-all n (λ k l. h k (omega arith)), h n (omega arith))
+
+  pub count-none : count p 0 ≡ 0
+  unfolding count
+  count-none = refl
+
+  pub count-more : (i : ℕ) → count p (i + 1) ≡ count p i + pick (p i) 1 0
+  unfolding count
+  count-more i = rw add-one
+
+  pub count-le : (n : ℕ) → count p n ≤ n
+  unfolding count
+  count-le zero = zero-le
+  count-le (suc n) = omega (arith, count-le n, pick-le (p n) 1 0 1 (omega arith) (omega arith))
+
+  pub count-up : (i n : ℕ) → i ≤ n → count p i ≤ count p n
+  unfolding count
+  count-up i zero h = let e : i ≡ 0 = omega arith in rw e zero-le
+  count-up i (suc n) h =
+      ⊎-elim (λ (q : i ≡ suc n). rw q (omega arith)) (λ (l : i < suc n). omega (arith, count-up i n (le-of-suc-le-suc l)))
+      (eq-or-lt-of-le h)
+
+module _ (p q : ℕ → Bool) where
+  pub every-cong : (n : ℕ) → ((k : ℕ) → k < n → p k ≡ q k) → every p n ≡ every q n
+  unfolding every
+  every-cong zero h = refl
+  every-cong (suc n) h = ap₂ (λ (a b : Bool). a && b) (every-cong n (λ k l. h k (omega arith))) (h n (omega arith))
+
+  pub count-cong : (n : ℕ) → ((k : ℕ) → k < n → p k ≡ q k) → count p n ≡ count q n
+  unfolding count
+  count-cong zero h = refl
+  count-cong (suc n) h =
+      ap₂ (λ (a : ℕ) (b : Bool). a + pick b 1 0) (count-cong n (λ k l. h k (omega arith))) (h n (omega arith))

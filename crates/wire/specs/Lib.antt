@@ -1,0 +1,4 @@
+pub mod Choice
+pub mod Places
+pub mod Bytes
+pub mod Buffers

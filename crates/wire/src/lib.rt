@@ -1,0 +1,3 @@
+// Numbers of 16 and 32 bits in little-endian bytes. specs/ has the words in which all our contracts speak of bytes.
+pub mod read;
+pub mod write;

@@ -1,0 +1,5 @@
+pub mod Choices
+pub mod Codes
+pub mod Exemption
+pub mod Measure
+pub mod Ladders

@@ -1,14 +1,14 @@
 -- Laws of the questions asked of all numbers below one: a step, an end, and what a yes or a no says of each. Assumes nothing.
-use mathlib.Core.Path.{_≡_, refl, ap₂}
+use mathlib.Core.Path.{_≡_, refl, sym, ap, ap₂, _∙_}
 use mathlib.Core.Logic.{⊎-elim}
 use mathlib.Core.Bool.{Bool, true, false, _&&_, and-false}
-use Prim.Native.Nat.{ℕ, zero, suc, _+_, _≤_, _<_, zero-le}
+use Prim.Native.Nat.{ℕ, zero, suc, _+_, _≤_, _<_, zero-le, suc-le-suc}
 use native.Mathlib.Nat.{not-suc-le-zero, le-of-suc-le-suc, eq-or-lt-of-le, le-of-eq}
 use native.Mathlib.Numerals.{add-one}
 use native.Mathlib.Omega.{arith}
 use Rattle.wire.specs.Choice.{pick}
-use Rattle.wire.specs.Places.{every, count}
-use Rattle.wire.proofs.ChoiceLaws.{and-left, and-right, pick-le}
+use Rattle.wire.specs.Places.{every, count, first}
+use Rattle.wire.proofs.ChoiceLaws.{and-left, and-right, pick-yes, pick-no, pick-le}
 
 module _ (p : ℕ → Bool) where
   pub every-none : every p 0 ≡ true
@@ -69,3 +69,35 @@ module _ (p q : ℕ → Bool) where
   count-cong zero h = refl
   count-cong (suc n) h =
       ap₂ (λ (a : ℕ) (b : Bool). a + pick b 1 0) (count-cong n (λ k l. h k (omega arith))) (h n (omega arith))
+
+-- the first that passes
+pub first-at : (p : ℕ → Bool) (i n : ℕ) → i < n → ((k : ℕ) → k < i → p k ≡ false) → p i ≡ true → first p n ≡ i
+unfolding first
+first-at p i zero h none here = absurd (not-suc-le-zero h)
+first-at p zero (suc n) h none here = sym (pick-yes _ _ _ _ here refl)
+first-at p (suc i) (suc n) h none here =
+    sym (pick-no _ _ _ _ (none 0 (omega arith)) refl)
+    ∙ ap suc (first-at (λ k. p (suc k)) i n (le-of-suc-le-suc h) (λ k l. none (suc k) (suc-le-suc l)) here)
+
+pub first-none : (p : ℕ → Bool) (n : ℕ) → ((k : ℕ) → k < n → p k ≡ false) → first p n ≡ n
+unfolding first
+first-none p zero none = refl
+first-none p (suc n) none =
+    sym (pick-no _ _ _ _ (none 0 (omega arith)) refl) ∙ ap suc (first-none (λ k. p (suc k)) n (λ k l. none (suc k) (suc-le-suc l)))
+
+pub first-le : (p : ℕ → Bool) (n : ℕ) → first p n ≤ n
+unfolding first
+first-le p zero = zero-le
+first-le p (suc n) = pick-le (p 0) 0 _ (suc n) zero-le (suc-le-suc (first-le (λ k. p (suc k)) n))
+
+pub first-passes : (p : ℕ → Bool) (n : ℕ) → first p n < n → p (first p n) ≡ true
+unfolding first
+first-passes p zero h = absurd (not-suc-le-zero h)
+first-passes p (suc n) h = go (p 0) refl (first-passes (λ k. p (suc k)) n)
+  where
+    go : (t : Bool) → p 0 ≡ t → (first (λ k. p (suc k)) n < n → p (suc (first (λ k. p (suc k)) n)) ≡ true)
+        → p (pick (p 0) 0 (suc (first (λ k. p (suc k)) n))) ≡ true
+    go true e more = ap p (sym (pick-yes _ _ _ _ e refl)) ∙ e
+    go false e more =
+        let q : pick (p 0) 0 (suc (first (λ k. p (suc k)) n)) ≡ suc (first (λ k. p (suc k)) n) = sym (pick-no _ _ _ _ e refl) in
+        ap p q ∙ more (le-of-suc-le-suc (rw q at h))

@@ -12,3 +12,8 @@ every p (suc n) = every p n && p n
 unfoldable pub count : (ℕ → Bool) → ℕ → ℕ
 count p zero = 0
 count p (suc n) = count p n + pick (p n) 1 0
+
+-- the first number below n that passes the test, or n where none does
+unfoldable pub first : (ℕ → Bool) → ℕ → ℕ
+first p zero = zero
+first p (suc n) = pick (p zero) zero (suc (first (λ k. p (suc k)) n))

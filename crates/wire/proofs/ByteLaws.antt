@@ -23,6 +23,16 @@ le-split (suc m) n s i =
     let e : i + 1 + m ≡ i + suc m = omega (arith, add-suc i m) in
     rw (suc-add m n, le-split m n s (i + 1), e, pow-succ', mul-assoc) (omega arith)
 
+-- two bytes, and four, written out; the places may be written in any way
+pub le-two : (s : List ℕ) (i j : ℕ) → j ≡ i + 1 → le 2 s i ≡ getD s i 0 + 256 * getD s j 0
+unfolding le
+le-two s i j e = rw e (omega arith)
+
+pub le-four : (s : List ℕ) (i j k l : ℕ) → j ≡ i + 1 → k ≡ i + 2 → l ≡ i + 3
+    → le 4 s i ≡ getD s i 0 + 256 * getD s j 0 + 65536 * getD s k 0 + 16777216 * getD s l 0
+le-four s i j k l ej ek el =
+    omega (arith, le-split 2 2 s i, le-two s i j ej, le-two s (i + 2) l (omega arith), ap (λ (n : ℕ). getD s n 0) ek)
+
 -- two places whose bytes agree hold the same number
 pub le-cong : (n : ℕ) (s t : List ℕ) (i j : ℕ) → ((k : ℕ) → k < n → getD s (i + k) 0 ≡ getD t (j + k) 0) → le n s i ≡ le n t j
 unfolding le

@@ -70,5 +70,11 @@ told-yes t r e n = sym e ∙ not-false r n
 pub told-no : (t r : Bool) → r ≡ t → not r ≡ true → t ≡ false
 told-no t r e n = sym e ∙ not-true r n
 
+pub flip-yes : (t : Bool) → t ≡ false → not t ≡ true
+flip-yes t e = rw e
+
+pub flip-no : (t : Bool) → t ≡ true → not t ≡ false
+flip-no t e = rw e
+
 -- what proves each return of a chain of early returns: `search chain`
-pub ruleset chain = (pick-yes, pick-no, told, told-yes, told-no, lt-ltb, le-ltb, le-leb, lt-leb, eq-eqb, ne-eqb)
+pub ruleset chain = (pick-yes, pick-no, told, told-yes, told-no, flip-yes, flip-no, lt-ltb, le-ltb, le-leb, lt-leb, eq-eqb, ne-eqb)

@@ -2,4 +2,5 @@ pub mod ChoiceLaws
 pub mod PlaceLaws
 pub mod ByteLaws
 pub mod BufferLaws
+pub mod PartLaws
 pub mod Unique

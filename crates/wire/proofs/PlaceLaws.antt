@@ -15,6 +15,10 @@ module _ (p : ℕ → Bool) where
   unfolding every
   every-none = refl
 
+  pub every-next : (i : ℕ) → every p i && p i ≡ every p (i + 1)
+  unfolding every
+  every-next i = rw add-one
+
   pub every-more : (i : ℕ) → every p i ≡ true → p i ≡ true → every p (i + 1) ≡ true
   unfolding every
   every-more i all here = rw add-one (simp (all, here))

@@ -1,0 +1,6 @@
+pub mod Entries
+pub mod Accounts
+pub mod Contracts
+pub mod Records
+pub mod Header
+pub mod Tables

@@ -1,11 +1,11 @@
 -- Laws of a choice by a test, and the set that proves each return of a chain of early returns. Assumes nothing.
 use mathlib.Core.Path.{_≡_, refl, sym, _∙_}
-use mathlib.Core.Bool.{Bool, true, false, not, _&&_, _||_}
+use mathlib.Core.Bool.{Bool, true, false, not, _&&_, _||_, and-false}
 use Prim.Native.Nat.{ℕ, _≤_, _<_}
 use native.Mathlib.Omega.{arith}
-use lib.Dec.{leb}
-use borrow.Author.Tests.{leb-true, lt-ltb, le-ltb, le-leb, lt-leb, eq-eqb, ne-eqb, not-true, not-false}
-use Rattle.wire.specs.Choice.{pick, within}
+use lib.Dec.{leb, eqb}
+use borrow.Author.Tests.{eqb-true, eqb-false, leb-true, lt-ltb, le-ltb, le-leb, lt-leb, eq-eqb, ne-eqb, not-true, not-false}
+use Rattle.wire.specs.Choice.{pick, within, orElse}
 
 module _ {A : Type 0} where
   pub pick-yes : (t : Bool) (x a b : A) → t ≡ true → x ≡ a → x ≡ pick t a b
@@ -33,7 +33,7 @@ unfolding pick
 pick-le true a b m p q = p
 pick-le false a b m p q = q
 
--- both parts of a test that holds, and of one of two that does not
+-- two tests at once: their parts, and what the parts say of them
 pub and-left : (a b : Bool) → a && b ≡ true → a ≡ true
 and-left true b e = refl
 and-left false b e = e
@@ -41,6 +41,15 @@ and-left false b e = e
 pub and-right : (a b : Bool) → a && b ≡ true → b ≡ true
 and-right true b e = e
 and-right false b e = cc
+
+pub and-yes : (a b : Bool) → a ≡ true → b ≡ true → a && b ≡ true
+and-yes a b p q = rw (p, q)
+
+pub and-no : (a b : Bool) → a ≡ false → a && b ≡ false
+and-no a b p = rw p
+
+pub and-no-right : (a b : Bool) → b ≡ false → a && b ≡ false
+and-no-right a b p = rw p (and-false a)
 
 pub or-left : (a b : Bool) → a || b ≡ false → a ≡ false
 or-left true b e = e
@@ -59,6 +68,28 @@ pub same-test : (a b : Bool) → (a ≡ true → b ≡ true) → (b ≡ true →
 same-test true b f g = sym (f refl)
 same-test false true f g = g refl
 same-test false false f g = refl
+
+-- two lists of refusals, one after the other
+pub or-else : (a b : ℕ) → a ≡ 0 → orElse a b ≡ b
+unfolding orElse
+or-else a b e = sym (pick-yes _ _ _ _ (eq-eqb a 0 e) refl)
+
+pub or-first : (a b : ℕ) → (a ≡ 0 → ⊥) → orElse a b ≡ a
+unfolding orElse
+or-first a b n = sym (pick-no _ _ _ _ (ne-eqb a 0 n) refl)
+
+pub or-first-by : (a b n : ℕ) → n ≡ a → (n ≡ 0 → ⊥) → n ≡ orElse a b
+or-first-by a b n e some = e ∙ sym (or-first a b (λ z. some (e ∙ z)))
+
+pub or-else-by : (a b n : ℕ) → a ≡ 0 → n ≡ b → n ≡ orElse a b
+or-else-by a b n z e = e ∙ sym (or-else a b z)
+
+pub or-none : (a b : ℕ) → orElse a b ≡ 0 → (a ≡ 0) × (b ≡ 0)
+or-none a b e = go (eqb a 0) refl
+  where
+    go : (t : Bool) → eqb a 0 ≡ t → (a ≡ 0) × (b ≡ 0)
+    go true q = let z : a ≡ 0 = eqb-true a 0 q in (z, sym (or-else a b z) ∙ e)
+    go false q = let n : a ≡ 0 → ⊥ = eqb-false a 0 q in absurd (n (sym (or-first a b n) ∙ e))
 
 -- what a call answered, r for the test t, and how its answer was asked for
 pub told : (t r v : Bool) → r ≡ t → r ≡ v → t ≡ v

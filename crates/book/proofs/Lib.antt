@@ -1,0 +1,6 @@
+pub mod SoundLaws
+pub mod BookLaws
+pub mod WriteLaws
+pub mod FreshLaws
+pub mod AskLaws
+pub mod Unique

@@ -1,0 +1,20 @@
+use native.Mathlib.Omega.{arith}
+use Rattle.book.proofs.WriteLaws.{head-fitting, head-too-long}
+use borrow.Author.Needs.{needs}
+use Rattle.book.proofs.head.put_head.Statement.{statement}
+use Rattle.book.proofs.head.put_head.Tie as tie
+
+returns : tie.Need-returns
+returns c = let a = c .before .before .args in head-too-long (a .b .now) (a .rulebook) (a .date) (c .if1 .taken)
+
+store-head-requires : tie.Need-store-head-requires
+store-head-requires c κs = search needs
+
+same-length : tie.Need-same-length
+same-length c = search needs
+
+returns-2 : tie.Need-returns-2
+returns-2 c = let a = c .before .before .before .before .before .before .args in head-fitting (a .b .now) _ (a .rulebook) (a .date) (omega arith) (c .before .before .store-head .ensures)
+
+pub put-head-spec : {M : Type 1} → statement M
+put-head-spec = tie.close (tie.spec returns store-head-requires same-length returns-2)

@@ -1,0 +1,67 @@
+use native.Mathlib.Omega.{arith}
+use lib.ListN.{length-set}
+use Rattle.book.proofs.WriteLaws.{head-written}
+use borrow.Author.Needs.{needs}
+use Rattle.book.proofs.head.store_head.Statement.{statement}
+use Rattle.book.proofs.head.store_head.Tie as tie
+
+array-read-b : tie.Need-array-read-b
+array-read-b c = search needs
+
+slice-write-b : tie.Need-slice-write-b
+slice-write-b c = search needs
+
+array-read-b-2 : tie.Need-array-read-b-2
+array-read-b-2 c = search needs
+
+slice-write-b-2 : tie.Need-slice-write-b-2
+slice-write-b-2 c = simp length-set (omega arith)
+
+array-read-b-3 : tie.Need-array-read-b-3
+array-read-b-3 c = search needs
+
+slice-write-b-3 : tie.Need-slice-write-b-3
+slice-write-b-3 c = simp length-set (omega arith)
+
+slice-write-b-4 : tie.Need-slice-write-b-4
+slice-write-b-4 c = simp length-set (omega arith)
+
+put16-requires : tie.Need-put16-requires
+put16-requires c κs = search needs
+
+put32-requires : tie.Need-put32-requires
+put32-requires c κs = search needs
+
+put16-requires-2 : tie.Need-put16-requires-2
+put16-requires-2 c κs = search needs
+
+put32-requires-2 : tie.Need-put32-requires-2
+put32-requires-2 c κs = search needs
+
+same-length : tie.Need-same-length
+same-length c = let first = simp length-set at (c .before .before .before .before .before .before .before .before .before .before .before .before .before .before .put16 .kept .0) in search needs
+
+returns : tie.Need-returns
+returns c =
+    let at-put16 = c .before .before .before .before .before .before .before .before .before .before .before .before .before .before in
+    let a = at-put16 .before .before .before .args in
+    head-written (a .b .now) _ _ _ _ (a .rulebook) (a .date) (at-put16 .before .before .before .pre) (at-put16 .put16 .ensures)
+    (c .before .before .before .before .before .before .before .before .before .before .put32 .ensures) (c .before .before .before .before .before .before .put162 .ensures) (c .before .before .put322 .ensures)
+
+pub store-head-spec : {M : Type 1} → statement M
+store-head-spec =
+    tie.close
+    (tie.spec
+    array-read-b
+    slice-write-b
+    array-read-b-2
+    slice-write-b-2
+    array-read-b-3
+    slice-write-b-3
+    slice-write-b-4
+    put16-requires
+    put32-requires
+    put16-requires-2
+    put32-requires-2
+    same-length
+    returns)

@@ -1,0 +1,83 @@
+use mathlib.Core.Path.{_≡_}
+use Prim.Native.Nat.{_-_, _/_, _≤_}
+use native.Mathlib.Omega.{arith}
+use borrow.Author.Needs.{needs}
+use lib.ListN.{length}
+use Rattle.wire.specs.Bytes.{bytes}
+use Rattle.wire.specs.Buffers.{put, rows}
+use Rattle.wire.proofs.BufferLaws.{no-rows}
+use Rattle.book.specs.Raise.{raisedPart}
+use Rattle.book.proofs.WriteLaws.{totalAfter, raise-turn}
+use Rattle.book.proofs.raise.raise_group.Statement.{statement}
+use Rattle.book.proofs.raise.raise_group.Tie as tie
+
+abbrev Inv-loop : tie.InvT-loop
+Inv-loop part₀ later places contracts j₀ j-end part j = (j ≤ length part₀ / 2) × (length part ≡ length part₀) × (part ≡ put part₀ 0 (rows (λ k. bytes 2 (totalAfter part₀ later places contracts k)) j))
+
+abbrev μ-loop : tie.MeasureT-loop
+μ-loop part₀ later places contracts j₀ j-end part j = length part₀ / 2 - j
+
+loop-holds : tie.Need-loop-holds Inv-loop μ-loop
+loop-holds c = (search needs, search needs, no-rows _ _ _)
+
+get8-requires : tie.Need-get8-requires Inv-loop μ-loop
+get8-requires c κs = search needs
+
+mul-get16 : tie.Need-mul-get16 Inv-loop μ-loop
+mul-get16 c = search needs
+
+get16-requires : tie.Need-get16-requires Inv-loop μ-loop
+get16-requires c κs = search needs
+
+mul-put16 : tie.Need-mul-put16 Inv-loop μ-loop
+mul-put16 c = search needs
+
+raise-requires : tie.Need-raise-requires Inv-loop μ-loop
+raise-requires c κs = search needs
+
+put16-requires : tie.Need-put16-requires Inv-loop μ-loop
+put16-requires c κs = search needs
+
+add-j : tie.Need-add-j Inv-loop μ-loop
+add-j c = search needs
+
+loop-less : tie.Need-loop-less Inv-loop μ-loop
+loop-less c = search needs
+
+loop-again : tie.Need-loop-again Inv-loop μ-loop
+loop-again c =
+    let l = c .before .before .before .before .before .before .before .before .before .loop in
+    let a = c .before .before .before .before .before .before .before .before .before .before .before .before .args in (
+      search needs,
+      search needs,
+      raise-turn (a .part .now) (a .later) (a .places .now) (a .contracts) (l .part) _ (l .j) _ _ _ (l .inv .2)
+          (c .before .before .before .before .before .before .before .get8 .ensures) (c .before .before .before .before .before .get16 .ensures) (c .before .before .before .raise .ensures) (c .before .before .put16 .ensures) (omega arith),
+    )
+
+same-length : tie.Need-same-length Inv-loop μ-loop
+same-length c = search needs
+
+returns : tie.Need-returns Inv-loop μ-loop
+unfolding raisedPart
+returns c =
+    let e : c .before .loop .j ≡ length (c .before .before .before .before .args .part .now) / 2 = omega arith in
+    rw (← e) (c .before .loop .inv .2)
+
+pub raise-group-spec : {M : Type 1} → statement M
+raise-group-spec =
+    tie.close
+    (tie.spec
+    Inv-loop
+    μ-loop
+    loop-holds
+    get8-requires
+    mul-get16
+    get16-requires
+    mul-put16
+    raise-requires
+    put16-requires
+    add-j
+    loop-less
+    loop-again
+    same-length
+    returns)

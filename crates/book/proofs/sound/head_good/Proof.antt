@@ -1,0 +1,42 @@
+use Rattle.book.specs.Sound.{headGood}
+use borrow.Author.Needs.{needs}
+use Rattle.book.proofs.sound.head_good.Statement.{statement}
+use Rattle.book.proofs.sound.head_good.Tie as tie
+
+get8-requires : tie.Need-get8-requires
+get8-requires c κs = search needs
+
+get32-requires : tie.Need-get32-requires
+get32-requires c κs = search needs
+
+mark-good-requires : tie.Need-mark-good-requires
+mark-good-requires c κs = search needs
+
+get16-requires : tie.Need-get16-requires
+get16-requires c κs = search needs
+
+get16-requires-2 : tie.Need-get16-requires-2
+get16-requires-2 c κs = search needs
+
+get32-requires-2 : tie.Need-get32-requires-2
+get32-requires-2 c κs = search needs
+
+is-day-requires : tie.Need-is-day-requires
+is-day-requires c κs = search needs
+
+returns : tie.Need-returns
+unfolding headGood
+returns c = cc
+
+pub head-good-spec : {M : Type 1} → statement M
+head-good-spec =
+    tie.close
+    (tie.spec
+    get8-requires
+    get32-requires
+    mark-good-requires
+    get16-requires
+    get16-requires-2
+    get32-requires-2
+    is-day-requires
+    returns)

@@ -1,0 +1,36 @@
+use borrow.Author.Needs.{needs}
+use Rattle.book.proofs.sound.mark_good.Statement.{statement}
+use Rattle.book.proofs.sound.mark_good.Tie as tie
+
+get8-requires : tie.Need-get8-requires
+get8-requires c κs = search needs
+
+array-read-result : tie.Need-array-read-result
+array-read-result c = search needs
+
+get8-requires-2 : tie.Need-get8-requires-2
+get8-requires-2 c κs = search needs
+
+array-read-result-2 : tie.Need-array-read-result-2
+array-read-result-2 c = search needs
+
+get8-requires-3 : tie.Need-get8-requires-3
+get8-requires-3 c κs = search needs
+
+array-read-result-3 : tie.Need-array-read-result-3
+array-read-result-3 c = search needs
+
+returns : tie.Need-returns
+returns c = cc
+
+pub mark-good-spec : {M : Type 1} → statement M
+mark-good-spec =
+    tie.close
+    (tie.spec
+    get8-requires
+    array-read-result
+    get8-requires-2
+    array-read-result-2
+    get8-requires-3
+    array-read-result-3
+    returns)

@@ -1,0 +1,5 @@
+pub mod Layout
+pub mod Sound
+pub mod Fresh
+pub mod Ask
+pub mod Raise

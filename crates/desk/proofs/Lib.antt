@@ -1,0 +1,5 @@
+pub mod CellLaws
+pub mod MoveLaws
+pub mod JudgeLaws
+pub mod TableLaws
+pub mod OpenLaws

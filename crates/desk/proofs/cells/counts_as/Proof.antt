@@ -1,0 +1,11 @@
+use mathlib.Core.Path.{refl}
+use Rattle.desk.specs.Counting.{counted}
+use Rattle.desk.proofs.cells.counts_as.Statement.{statement}
+use Rattle.desk.proofs.cells.counts_as.Tie as tie
+
+returns : tie.Need-returns
+unfolding counted
+returns c = refl
+
+pub counts-as-spec : {M : Type 1} → statement M
+counts-as-spec = tie.close (tie.spec returns)

@@ -1,0 +1,13 @@
+-- 01, "The calls and their refusals": "Abandoning closes the day and writes nothing; all closed states are alike." "Abandon: 10."
+use Prim.Native.Nat.{ℕ}
+use Rattle.desk.specs.declared.state.State.{State}
+use Rattle.desk.specs.declared.state.State.the-variants.{Closed, Open}
+use Rattle.desk.specs.declared.state.Answer.{Answer}
+use Rattle.desk.specs.Answers.{answered}
+
+abbrev pub abandonFault : State → ℕ
+abandonFault Closed = 10
+abandonFault (Open day) = 0
+
+unfoldable pub abandonAnswer : State → Answer
+abandonAnswer state = answered (abandonFault state) Closed

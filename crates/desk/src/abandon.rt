@@ -1,0 +1,15 @@
+// Abandoning a day: it closes, and nothing is written.
+use crate::refusal::WRONG_STATE;
+use crate::state::Answer;
+use crate::state::State;
+ghost use mathlib.Core.Path.{_≡_};
+ghost use Rattle.desk.specs.Abandon.{abandonAnswer};
+
+pub fn abandon(state: State) -> Answer
+    ensures { λ a. ⌜ a ≡ abandonAnswer state ⌝ }
+{
+    match state {
+        State::Open(_) => Answer::Done(State::Closed),
+        State::Closed => Answer::Refused(WRONG_STATE),
+    }
+}

@@ -1,0 +1,89 @@
+// One record judged against sound tables: what it counts for, and where.
+use crate::refusal::FIELDS;
+use crate::refusal::NO_ACCOUNT;
+use crate::refusal::NO_CONTRACT;
+use daylog::accounts::find_account;
+use daylog::contracts::Contract;
+use daylog::contracts::Found;
+use daylog::contracts::find_contract;
+use daylog::record::Record;
+use daylog::record::record_good;
+use rules::exemption::is_exempt;
+use rules::measure::is_large;
+use wire::read::get8;
+ghost use mathlib.Core.Path.{_≡_};
+ghost use mathlib.Core.Bool.{true};
+ghost use Prim.Native.Nat.{_≤_};
+ghost use lib.ListN.{length};
+ghost use Rattle.daylog.specs.Accounts.{accountsGood};
+ghost use Rattle.daylog.specs.Tables.{tablesIn};
+ghost use Rattle.desk.specs.Counting.{planFor};
+ghost use Rattle.desk.specs.Judging.{judged};
+
+// The group and the contract's place for which a record counts, and as which kinds.
+pub struct Plan {
+    pub group: u8,
+    pub place: u16,
+    pub own: bool,
+    pub frequent: bool,
+    pub over: bool,
+}
+
+pub enum Judged {
+    Counts(Plan),
+    Refused(u32),
+}
+
+fn plan_for(rulebook: u8, e: Contract, r: Record, place: u16, group: u8, group2: u8) -> Plan
+    ensures { λ a. ⌜ a ≡ planFor rulebook e r place group group2 ⌝ }
+{
+    if r.sort == 1 {
+        let buys = is_exempt(rulebook, e.sort, 1, r.instruction, r.purpose);
+        let sells = is_exempt(rulebook, e.sort, 1, r.instruction2, r.purpose2);
+        return Plan {
+            group,
+            place,
+            own: (group == group2) & !buys & !sells,
+            frequent: false,
+            over: false,
+        };
+    }
+    let lots = r.lots;
+    let largest = e.largest;
+    Plan {
+        group,
+        place,
+        own: false,
+        frequent: (r.sort == 2) & !is_exempt(rulebook, e.sort, 2, r.instruction, r.purpose),
+        over: (r.sort == 2)
+            & is_large(rulebook, lots, largest)
+            & !is_exempt(rulebook, e.sort, 3, r.instruction, r.purpose),
+    }
+}
+
+// Each number is searched for once. The tables are sound: 32 contracts at the most, and accounts that rise.
+pub(crate) fn judge(rulebook: u8, contracts: &[u8], accounts: &[u8], r: Record) -> Judged
+    requires { ⌜ (length (now contracts) ≤ 256) × (accountsGood (now accounts) ≡ true) ⌝ }
+    ensures { λ a. ⌜ a ≡ judged (tablesIn rulebook (now (contracts .entry)) (now (accounts .entry))) r ⌝ }
+{
+    if !record_good(rulebook, r) {
+        return Judged::Refused(FIELDS);
+    }
+    let found = find_contract(contracts, r.contract);
+    let Found::At(at, e) = found else {
+        return Judged::Refused(NO_CONTRACT);
+    };
+    let place = at as u16;
+    let first = find_account(accounts, r.first);
+    if first.len() == 0 {
+        return Judged::Refused(NO_ACCOUNT);
+    }
+    if r.sort != 1 {
+        return Judged::Counts(plan_for(rulebook, e, r, place, get8(first, 4), 0));
+    }
+    let second = find_account(accounts, r.second);
+    if second.len() == 0 {
+        return Judged::Refused(NO_ACCOUNT);
+    }
+    Judged::Counts(plan_for(rulebook, e, r, place, get8(first, 4), get8(second, 4)))
+}

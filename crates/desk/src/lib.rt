@@ -1,0 +1,9 @@
+// The desk's calls. The caller keeps the state, and lends the tables, the book, the counts and the findings.
+pub mod abandon;
+mod cells;
+mod judge;
+pub mod open;
+pub mod refusal;
+pub mod state;
+mod tables;
+pub mod take;

@@ -1,0 +1,24 @@
+// The refusals' numbers. Those of a log's header and tables, 1 to 8, come from daylog::header::log_fault.
+
+// Length: a record not of 20 bytes.
+pub const LENGTH: u32 = 1;
+// The date is not later than the book's.
+pub const NOT_LATER: u32 = 9;
+// A day is open for open; none is for take, end, abandon.
+pub const WRONG_STATE: u32 = 10;
+// The record's own fields, or the wrong type for the call.
+pub const FIELDS: u32 = 11;
+// The contract is not in the tables.
+pub const NO_CONTRACT: u32 = 12;
+// An account is not in the tables.
+pub const NO_ACCOUNT: u32 = 13;
+// 1,000,000 records or more are already taken.
+pub const FULL: u32 = 14;
+// The counts buffer is under 12,288.
+pub const COUNTS_SHORT: u32 = 16;
+// The book is not sound.
+pub const NOT_SOUND: u32 = 17;
+// The book's rulebook is not the day's.
+pub const OTHER_RULEBOOK: u32 = 18;
+// Changed since opening: the tables or a cell.
+pub const CHANGED: u32 = 19;

@@ -10,7 +10,7 @@ ghost use Rattle.wire.specs.Bytes.{bytes, le};
 ghost use Rattle.book.specs.Raise.{raised, hitAt, raisedPart};
 
 // A total after the day: from zero in a later year, and one more with an offence.
-fn raise(later: bool, hit: bool, total: u16) -> u16
+pub fn raise_total(later: bool, hit: bool, total: u16) -> u16
     ensures { λ r. ⌜ r ≡ raised later hit total ⌝ }
 {
     let start = if later { 0 } else { total };
@@ -26,6 +26,6 @@ pub fn raise_group(part: &mut [u8], later: bool, places: &[u8], contracts: u8)
     for j in 0..part.len() / 2 {
         let hit = (j < places.len()) & (get8(places, j) < contracts);
         let total = get16(part, 2 * j);
-        put16(part, 2 * j, raise(later, hit, total));
+        put16(part, 2 * j, raise_total(later, hit, total));
     }
 }

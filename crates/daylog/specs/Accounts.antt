@@ -6,7 +6,7 @@ use mathlib.Core.List.{List, []}
 use lib.Dec.{leb, ltb, eqb}
 use lib.ListN.{getD, take, drop}
 use Rattle.wire.specs.Choice.{pick, within}
-use Rattle.wire.specs.Places.{every, first}
+use Rattle.wire.specs.Places.{every, some, first}
 use Rattle.wire.specs.Bytes.{le}
 use Rattle.daylog.specs.declared.accounts.Account.{Account}
 use Rattle.daylog.specs.Entries.{entries}
@@ -32,6 +32,13 @@ accountGoodAt s k = accountGood (numberBefore s k) (accountAt s k)
 
 unfoldable pub accountsGood : List ℕ → Bool
 accountsGood s = every (accountGoodAt s) (entries s)
+
+-- 01, "Ladders": "a group with a member among that day's accounts"
+abbrev pub memberAt : List ℕ → ℕ → ℕ → Bool
+memberAt s group k = eqb (accountAt s k .group) group && eqb (accountAt s k .kind) 2
+
+unfoldable pub hasMember : List ℕ → ℕ → Bool
+hasMember s group = some (memberAt s group) (entries s)
 
 -- the place of an account, or the number of entries where it is not there
 unfoldable pub accountPlace : List ℕ → ℕ → ℕ

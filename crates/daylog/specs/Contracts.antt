@@ -39,6 +39,10 @@ contractGoodAt rulebook s k = contractGood rulebook (idBefore s k) (contractAt s
 unfoldable pub contractsGood : ℕ → List ℕ → Bool
 contractsGood rulebook s = every (contractGoodAt rulebook s) (entries s)
 
+-- the entry at a place, and one of zeros past the end
+unfoldable pub contractIn : List ℕ → ℕ → Contract
+contractIn s k = pick (ltb k (entries s)) (contractAt s k) (record { id = 0; sort = 0; product = 0; largest = lots 0 })
+
 -- the place of a contract id, or the number of entries where it is not there
 unfoldable pub contractPlace : List ℕ → ℕ → ℕ
 contractPlace s id = first (λ k. eqb (contractAt s k .id) id) (entries s)

@@ -3,7 +3,7 @@ use crate::word::word;
 ghost use mathlib.Core.Path.{_≡_};
 ghost use Prim.Native.Nat.{_+_, _*_, _≤_};
 ghost use lib.ListN.{length};
-ghost use Rattle.daylog.specs.Accounts.{accountFrom, accountAt, accountGood, accountsGood, halved, foundAccount};
+ghost use Rattle.daylog.specs.Accounts.{accountFrom, accountAt, accountGood, accountsGood, hasMember, halved, foundAccount};
 
 pub struct Account {
     pub number: u32,
@@ -53,6 +53,18 @@ pub fn accounts_good(part: &[u8]) -> bool
         before = e.number;
     }
     good
+}
+
+// Whether a group has a non-broker member among the accounts.
+pub fn has_member(part: &[u8], group: u8) -> bool
+    ensures { λ r. ⌜ r ≡ hasMember (now (part .entry)) group ⌝ }
+{
+    let mut none = true;
+    for k in 0..part.len() / 8 {
+        let e = account_at(part, k);
+        none = none & !((e.group == group) & (e.kind == 2));
+    }
+    !none
 }
 
 // The place that halving ends at: of the account, where it is in a table that rises.

@@ -4,7 +4,7 @@ use rules::measure::Lots;
 ghost use mathlib.Core.Path.{_≡_};
 ghost use Prim.Native.Nat.{_+_, _*_, _≤_};
 ghost use lib.ListN.{length};
-ghost use Rattle.daylog.specs.Contracts.{contractFrom, contractAt, contractGood, contractsGood, foundContract};
+ghost use Rattle.daylog.specs.Contracts.{contractFrom, contractAt, contractGood, contractsGood, contractIn, foundContract};
 
 pub struct Contract {
     pub id: u16,
@@ -53,6 +53,21 @@ pub fn contracts_good(rulebook: u8, part: &[u8]) -> bool
         before = e.id;
     }
     good
+}
+
+// The entry at a place; one of zeros past the end.
+pub fn contract_at(part: &[u8], k: usize) -> Contract
+    ensures { λ r. ⌜ r ≡ contractIn (now (part .entry)) k ⌝ }
+{
+    if k < part.len() / 8 {
+        return contract_here(part, k);
+    }
+    Contract {
+        id: 0,
+        sort: 0,
+        product: 0,
+        largest: Lots(0),
+    }
 }
 
 // What the search for a contract finds: its place, from 0, and its entry.

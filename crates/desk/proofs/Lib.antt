@@ -3,3 +3,8 @@ pub mod MoveLaws
 pub mod JudgeLaws
 pub mod TableLaws
 pub mod OpenLaws
+pub mod LadderLaws
+pub mod ListedLaws
+pub mod ListingLaws
+pub mod RaiseLaws
+pub mod EndLaws

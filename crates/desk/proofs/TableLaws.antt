@@ -3,7 +3,7 @@ use mathlib.Core.Path.{_≡_, refl, sym, ap, _∙_}
 use mathlib.Core.Bool.{Bool, true, false, _&&_, _||_, not}
 use mathlib.Core.List.{List}
 use Prim.Native.Nat.{ℕ, _+_, _-_, _*_, _≤_}
-use borrow.Author.Tests.{eqb-true, not-false}
+use borrow.Author.Tests.{eqb-true, ltb-false, not-false}
 use lib.Dec.{eqb, lit<}
 use Rattle.wire.proofs.ChoiceLaws.{pick-zero, and-left, and-right, or-left, or-right}
 use Rattle.daylog.specs.declared.header.Header.{Header}
@@ -77,3 +77,8 @@ sound-call day log row room e =
     let e3 = pick-zero _ 19 _ (lit< tt) (e2 .1) in
     let u = unchanged (day .head) log (e3 .0) in
     (u .0, rw (u .0) (log-sound log (u .1)))
+
+pub room-called : (day : Day) (log row : List ℕ) (room : ℕ) → callFault day log row room ≡ 0 → 12288 ≤ room
+unfolding callFault
+room-called day log row room e =
+    ltb-false _ _ (pick-zero _ 16 _ (lit< tt) (pick-zero _ 1 _ (lit< tt) e .1) .0)

@@ -6,3 +6,7 @@ pub mod Answers
 pub mod Take
 pub mod Open
 pub mod Abandon
+pub mod Offences
+pub mod Findings
+pub mod End
+pub mod Listing

@@ -14,6 +14,8 @@ pub const NO_CONTRACT: u32 = 12;
 pub const NO_ACCOUNT: u32 = 13;
 // 1,000,000 records or more are already taken.
 pub const FULL: u32 = 14;
+// The end record's number is not the records taken.
+pub const OTHER_NUMBER: u32 = 15;
 // The counts buffer is under 12,288.
 pub const COUNTS_SHORT: u32 = 16;
 // The book is not sound.
@@ -22,3 +24,5 @@ pub const NOT_SOUND: u32 = 17;
 pub const OTHER_RULEBOOK: u32 = 18;
 // Changed since opening: the tables or a cell.
 pub const CHANGED: u32 = 19;
+// The findings buffer is under 8 bytes a finding.
+pub const FINDINGS_SHORT: u32 = 20;

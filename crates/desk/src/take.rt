@@ -22,7 +22,7 @@ ghost use Rattle.daylog.specs.Tables.{tablesOf};
 ghost use Rattle.desk.specs.Take.{callFault, PlanGives, RecordGives, TakeGives};
 
 // What a call is handed: the record's length, the counts' length, the tables.
-fn call_fault(day: Day, log: &[u8], row: &[u8], room: usize) -> u32
+pub(crate) fn call_fault(day: Day, log: &[u8], row: &[u8], room: usize) -> u32
     ensures { λ r. ⌜ r ≡ callFault day (now (log .entry)) (now (row .entry)) room ⌝ }
 {
     if row.len() != 20 {

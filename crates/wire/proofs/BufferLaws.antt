@@ -7,7 +7,7 @@ use native.Mathlib.Nat.{zero-add, le-of-suc-le-suc, not-suc-le-zero, eq-or-lt-of
 use native.Mathlib.Numerals.{add-one}
 use native.Mathlib.Omega.{arith}
 use borrow.Author.Tests.{le-leb, lt-leb}
-use lib.ListN.{length, getD, take, drop, set, length-append, length-take, length-drop, take-append-drop, List·getD-append}
+use lib.ListN.{length, getD, take, drop, set, length-append, length-take, length-drop, take-append-drop, drop-of-length-le, List·getD-append}
 use lib.Seq.{take-at, drop-at, drop-drop, getD-take, getD-drop, getD-append-add, length-take-le, take-all, drop-length, sets, sets-eq}
 use Rattle.wire.specs.Choice.{pick}
 use Rattle.wire.specs.Bytes.{le, bytes}
@@ -122,6 +122,15 @@ then s r r′ p q at k h e w e′ = e′ ∙ ap₂ (λ (a b : List ℕ). a ++ (q
     regroup : (take at s ++ p) ++ (q ++ drop (at + length (p ++ q)) s) ≡ take at s ++ ((p ++ q) ++ drop (at + length (p ++ q)) s)
     regroup = simp append-assoc
 
+-- what is put to the end, and then what is put before it, is the whole
+pub put-both : (s p q : List ℕ) (n : ℕ) → length p ≡ n → n + length q ≡ length s → put (put s n q) 0 p ≡ p ++ q
+unfolding put
+put-both s p q n e w =
+    let z : 0 + length p ≡ n = omega arith in
+    ap (λ (k : ℕ). p ++ drop k (take n s ++ (q ++ drop (n + length q) s))) z
+    ∙ ap (λ (l : List ℕ). p ++ l) (drop-at (take n s) (q ++ drop (n + length q) s) n (length-take-le n s (omega arith)))
+    ∙ ap (λ (l : List ℕ). p ++ (q ++ l)) (drop-of-length-le s {i = n + length q} (omega arith)) ∙ ap (λ (l : List ℕ). p ++ l) (append-nil q)
+
 -- ---- rows
 module _ (f : ℕ → List ℕ) where
   pub rows-none : rows f 0 ≡ []
@@ -179,3 +188,12 @@ module _ (f : ℕ → List ℕ) (m : ℕ) (len : (k : ℕ) → length (f k) ≡ 
 
 pub no-rows : (s : List ℕ) (at : ℕ) (f : ℕ → List ℕ) → s ≡ put s at (rows f 0)
 no-rows s at f = sym (ap (put s at) (rows-none f) ∙ put-none s at)
+
+-- rows of one element each: the element at a place
+pub ones-at : (f : ℕ → ℕ) (n i : ℕ) → i < n → getD (rows (λ k. f k ∷ []) n) i 0 ≡ f i
+ones-at f n i h =
+    let e : 1 * i + 0 ≡ i = omega arith in
+    ap (λ (k : ℕ). getD (rows (λ k. f k ∷ []) n) k 0) (sym e) ∙ rows-at (λ k. f k ∷ []) 1 (λ _. refl) n i 0 h (omega arith)
+
+pub ones-length : (f : ℕ → ℕ) (n : ℕ) → length (rows (λ k. f k ∷ []) n) ≡ n
+ones-length f n = omega (arith, rows-length (λ k. f k ∷ []) 1 (λ _. refl) n)

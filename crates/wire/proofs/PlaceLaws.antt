@@ -94,6 +94,13 @@ unfolding first
 first-le p zero = zero-le
 first-le p (suc n) = pick-le (p 0) 0 _ (suc n) zero-le (suc-le-suc (first-le (λ k. p (suc k)) n))
 
+pub first-cong : (p q : ℕ → Bool) (n : ℕ) → ((k : ℕ) → k < n → p k ≡ q k) → first p n ≡ first q n
+unfolding first
+first-cong p q zero h = refl
+first-cong p q (suc n) h =
+    ap₂ (λ (t : Bool) (m : ℕ). pick t 0 (suc m)) (h 0 (omega arith))
+    (first-cong (λ k. p (suc k)) (λ k. q (suc k)) n (λ k l. h (suc k) (suc-le-suc l)))
+
 pub first-passes : (p : ℕ → Bool) (n : ℕ) → first p n < n → p (first p n) ≡ true
 unfolding first
 first-passes p zero h = absurd (not-suc-le-zero h)

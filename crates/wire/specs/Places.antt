@@ -1,12 +1,16 @@
 -- Questions asked of all numbers below a number: the places of a table, the ladders of a book.
 use Prim.Native.Nat.{ℕ, zero, suc, _+_}
-use mathlib.Core.Bool.{Bool, true, _&&_}
+use mathlib.Core.Bool.{Bool, true, _&&_, not}
 use Rattle.wire.specs.Choice.{pick}
 
 -- every number below n passes the test
 unfoldable pub every : (ℕ → Bool) → ℕ → Bool
 every p zero = true
 every p (suc n) = every p n && p n
+
+-- some number below n passes the test
+unfoldable pub some : (ℕ → Bool) → ℕ → Bool
+some p n = not (every (λ k. not (p k)) n)
 
 -- how many numbers below n pass the test
 unfoldable pub count : (ℕ → Bool) → ℕ → ℕ

@@ -32,8 +32,8 @@ get16-requires c κs = search needs
 mul-put16 : tie.Need-mul-put16 Inv-loop μ-loop
 mul-put16 c = search needs
 
-raise-requires : tie.Need-raise-requires Inv-loop μ-loop
-raise-requires c κs = search needs
+raise-total-requires : tie.Need-raise-total-requires Inv-loop μ-loop
+raise-total-requires c κs = search needs
 
 put16-requires : tie.Need-put16-requires Inv-loop μ-loop
 put16-requires c κs = search needs
@@ -51,7 +51,7 @@ loop-again c =
       search needs,
       search needs,
       raise-turn (a .part .now) (a .later) (a .places .now) (a .contracts) (l .part) _ (l .j) _ _ _ (l .inv .2)
-          (c .before .before .before .before .before .before .before .get8 .ensures) (c .before .before .before .before .before .get16 .ensures) (c .before .before .before .raise .ensures) (c .before .before .put16 .ensures) (omega arith),
+          (c .before .before .before .before .before .before .before .get8 .ensures) (c .before .before .before .before .before .get16 .ensures) (c .before .before .before .raise-total .ensures) (c .before .before .put16 .ensures) (omega arith),
     )
 
 same-length : tie.Need-same-length Inv-loop μ-loop
@@ -74,7 +74,7 @@ raise-group-spec =
     mul-get16
     get16-requires
     mul-put16
-    raise-requires
+    raise-total-requires
     put16-requires
     add-j
     loop-less

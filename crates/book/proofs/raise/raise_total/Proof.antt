@@ -5,8 +5,8 @@ use native.Mathlib.Omega.{arith}
 use Rattle.wire.proofs.ChoiceLaws.{pick-yes, pick-no}
 use Rattle.book.specs.Raise.{raised}
 use borrow.Author.Needs.{needs}
-use Rattle.book.proofs.raise.raise.Statement.{statement}
-use Rattle.book.proofs.raise.raise.Tie as tie
+use Rattle.book.proofs.raise.raise_total.Statement.{statement}
+use Rattle.book.proofs.raise.raise_total.Tie as tie
 
 add-result : tie.Need-add-result
 add-result c = ⊎-elim (λ w. omega arith) (λ w. omega arith) (c .before .before .if2 .came)
@@ -21,5 +21,5 @@ returns c =
     (⊎-elim (λ w. pick-yes _ _ _ _ (w .0 .taken) (w .1)) (λ w. pick-no _ _ _ _ (w .0 .left) (w .1)) (c .before .before .before .if1 .came))
     (⊎-elim (λ w. pick-yes _ _ _ _ (w .0 .taken) (w .1)) (λ w. pick-no _ _ _ _ (w .0 .left) (w .1)) (c .before .before .if2 .came))
 
-pub raise-spec : {M : Type 1} → statement M
-raise-spec = tie.close (tie.spec add-result cast-result returns)
+pub raise-total-spec : {M : Type 1} → statement M
+raise-total-spec = tie.close (tie.spec add-result cast-result returns)

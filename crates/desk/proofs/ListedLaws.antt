@@ -1,0 +1,83 @@
+-- Laws of the list of findings: what the writes leave, one more where a ladder has an offence, how long it is. Assumes nothing.
+use mathlib.Core.Path.{_≡_, refl, sym, ap, ap₂, _∙_}
+use mathlib.Core.Bool.{Bool, true, false}
+use mathlib.Core.List.{List, []}
+use Prim.Native.Nat.{ℕ, zero, suc, _+_, _*_, _%_, _<_, _≤_, zero-le}
+use native.Mathlib.Nat.{add-zero, mul-add}
+use native.Mathlib.Omega.{arith}
+use lib.ListN.{length, set, length-append}
+use Rattle.wire.specs.Choice.{pick}
+use Rattle.wire.specs.Places.{count}
+use Rattle.wire.specs.Bytes.{bytes}
+use Rattle.wire.specs.Buffers.{put, putIn, rows}
+use Rattle.wire.proofs.ChoiceLaws.{pick-yes, pick-no}
+use Rattle.wire.proofs.PlaceLaws.{count-more, count-up}
+use Rattle.wire.proofs.BufferLaws.{put-four, put-none, then, rows-more}
+use Rattle.daylog.specs.Entries.{entries}
+use Rattle.daylog.specs.Accounts.{hasMember}
+use Rattle.book.proofs.WriteLaws.{then-in}
+use Rattle.desk.specs.Offences.{groupAt, kindAt, familyAt}
+use Rattle.desk.specs.Findings.{finding}
+use Rattle.desk.specs.Listing.{hitBy, foundBy, foundWith}
+
+pub finding-written : (s r r′ : List ℕ) (at ladder sanction total id : ℕ) → at + 8 ≤ length s
+    → r ≡ putIn (set (set (set (set s at (groupAt ladder)) (at + 1) (kindAt ladder)) (at + 2) (familyAt ladder)) (at + 3) sanction) (at + 4) (bytes 2 total)
+    → r′ ≡ putIn r (at + 6) (bytes 2 id) → r′ ≡ put s at (finding ladder sanction total id)
+unfolding finding bytes
+finding-written s r r′ at ladder sanction total id h e e′ =
+    then-in s r r′ _ _ at (at + 6)
+    (then-in s _ r _ _ at (at + 4) (put-four s at (groupAt ladder) (kindAt ladder) (familyAt ladder) sanction (omega arith)) refl e (omega arith))
+    refl e′ (omega arith)
+
+-- ---- one more where a test holds, what is written then, and room for it
+pub more-yes : (t : Bool) (n : ℕ) → t ≡ true → n + 1 ≡ n + pick t 1 0
+more-yes t n e = ap (λ (k : ℕ). n + k) (pick-yes t 1 1 0 e refl)
+
+pub more-no : (t : Bool) (n : ℕ) → t ≡ false → n ≡ n + pick t 1 0
+more-no t n e = sym (add-zero n) ∙ ap (λ (k : ℕ). n + k) (pick-no t 0 1 0 e refl)
+
+pub put-yes : (t : Bool) (s r p p′ : List ℕ) (at : ℕ) → t ≡ true → r ≡ put s at p → p ≡ p′ → r ≡ put s at (pick t p′ [])
+put-yes t s r p p′ at h e q = e ∙ ap (put s at) (pick-yes t p p′ [] h q)
+
+pub put-no : (t : Bool) (s p : List ℕ) (at : ℕ) → t ≡ false → s ≡ put s at (pick t p [])
+put-no t s p at h = sym (put-none s at) ∙ ap (put s at) (pick-no t [] p [] h refl)
+
+pub room-yes : (t : Bool) (n m : ℕ) → t ≡ true → 8 * (n + pick t 1 0) ≤ m → 8 * n + 8 ≤ m
+room-yes t n m e h = omega (arith, more-yes t n e)
+
+pub count-room : (p : ℕ → Bool) (n l k m m′ : ℕ) → n ≡ count p l → l < k → 8 * count p k ≤ m → m′ ≡ m → 8 * (n + pick (p l) 1 0) ≤ m′
+count-room p n l k m m′ e h w q = omega (arith, count-up p (l + 1) k (omega arith), count-more p l)
+
+-- a ladder that does not begin a group is of the group of the one before
+pub same-group : (l : ℕ) → ((l + 1) % 48 ≡ 0 → ⊥) → groupAt (l + 1) ≡ groupAt l
+same-group l n = omega arith
+
+length-if : (t : Bool) (ladder sanction total id : ℕ) → length (pick t (finding ladder sanction total id) []) ≡ 8 * pick t 1 0
+unfolding pick finding bytes
+length-if true ladder sanction total id = refl
+length-if false ladder sanction total id = refl
+
+module _ (rulebook : ℕ) (later : Bool) (contracts accounts places book : List ℕ) where
+  abbrev found : ℕ → List ℕ
+  found = foundWith rulebook later contracts accounts places book
+
+  abbrev hit : ℕ → Bool
+  hit = hitBy places (entries contracts)
+
+  -- the findings of the first n ladders have 8 bytes each
+  pub found-length : (n : ℕ) → length (rows found n) ≡ 8 * count hit n
+  unfolding rows count foundWith foundBy
+  found-length zero = refl
+  found-length (suc n) =
+      length-append (rows found n) (found n) ∙ ap₂ (λ (x y : ℕ). x + y) (found-length n) (length-if (hit n) n _ _ _)
+      ∙ sym (mul-add 8 (count hit n) (pick (hit n) 1 0))
+
+  -- a turn of `list_all`
+  pub found-turn : (s r r′ : List ℕ) (n l : ℕ) (member : Bool) → n ≡ count hit l → r ≡ put s 0 (rows found l)
+      → member ≡ hasMember accounts (groupAt l) → r′ ≡ put r (8 * n) (foundBy rulebook later contracts places book member l)
+      → r′ ≡ put s 0 (rows found (l + 1))
+  unfolding foundWith
+  found-turn s r r′ n l member w e m e′ =
+      then s r r′ (rows found l) (found l) 0 (8 * n) zero-le e (omega (arith, found-length l))
+      (e′ ∙ ap (λ (b : Bool). put r (8 * n) (foundBy rulebook later contracts places book b l)) m)
+      ∙ ap (put s 0) (sym (rows-more found l))

@@ -8,3 +8,4 @@ pub mod ListedLaws
 pub mod ListingLaws
 pub mod RaiseLaws
 pub mod EndLaws
+pub mod Unique

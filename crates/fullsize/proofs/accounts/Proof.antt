@@ -2,8 +2,8 @@ use mathlib.Core.Path.{_≡_}
 use Prim.Native.Nat.{_-_, _≤_}
 use lib.ListN.{length}
 use borrow.Author.Needs.{needs}
-use Rattle.bench_take.proofs.accounts.Statement.{statement}
-use Rattle.bench_take.proofs.accounts.Tie as tie
+use Rattle.fullsize.proofs.accounts.Statement.{statement}
+use Rattle.fullsize.proofs.accounts.Tie as tie
 
 abbrev Inv-loop : tie.InvT-loop
 Inv-loop t₀ k₀ t k = (k ≤ 512) × (length t ≡ length t₀)

@@ -2,8 +2,8 @@ use mathlib.Core.Path.{_≡_}
 use Prim.Native.Nat.{_-_, _≤_}
 use lib.ListN.{length}
 use borrow.Author.Needs.{needs}
-use Rattle.bench_take.proofs.contracts.Statement.{statement}
-use Rattle.bench_take.proofs.contracts.Tie as tie
+use Rattle.fullsize.proofs.contracts.Statement.{statement}
+use Rattle.fullsize.proofs.contracts.Tie as tie
 
 abbrev Inv-loop : tie.InvT-loop
 Inv-loop t₀ k₀ t k = (k ≤ 32) × (length t ≡ length t₀)
@@ -34,6 +34,15 @@ add-put8 c = search needs
 
 put8-requires : tie.Need-put8-requires Inv-loop μ-loop
 put8-requires c κs = search needs
+
+add-put8-2 : tie.Need-add-put8-2 Inv-loop μ-loop
+add-put8-2 c = search needs
+
+cast-put8 : tie.Need-cast-put8 Inv-loop μ-loop
+cast-put8 c = search needs
+
+put8-requires-2 : tie.Need-put8-requires-2 Inv-loop μ-loop
+put8-requires-2 c κs = search needs
 
 add-put32 : tie.Need-add-put32 Inv-loop μ-loop
 add-put32 c = search needs
@@ -70,6 +79,9 @@ contracts-spec =
     put16-requires
     add-put8
     put8-requires
+    add-put8-2
+    cast-put8
+    put8-requires-2
     add-put32
     put32-requires
     add-k

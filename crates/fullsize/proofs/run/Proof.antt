@@ -2,8 +2,8 @@ use mathlib.Core.Path.{_≡_}
 use Prim.Native.Nat.{_-_, _≤_}
 use lib.ListN.{length}
 use borrow.Author.Needs.{needs}
-use Rattle.bench_take.proofs.run.Statement.{statement}
-use Rattle.bench_take.proofs.run.Tie as tie
+use Rattle.fullsize.proofs.run.Statement.{statement}
+use Rattle.fullsize.proofs.run.Tie as tie
 
 abbrev Inv-loop : tie.InvT-loop
 Inv-loop t c₀ n row₀ state₀ seed₀ counter₀ c row state seed counter = (counter ≤ n) × (length c ≡ length c₀) × (length row ≡ 20)

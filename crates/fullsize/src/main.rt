@@ -1,6 +1,9 @@
-// Takes 1,000,000 records on a day with 32 contracts and 512 accounts, and prints the sum of the counts: the desk's side of
-// bench/run, which times it beside plain Rust.
+// The desk at full size: 32 contracts, 512 accounts, 1,000,000 records taken; then a day ended in which every ladder of all
+// 128 groups has an offence. bench/run times it beside plain Rust.
+use daylog::header::header_of;
+use desk::end::Ended;
 use desk::state::Answer;
+use desk::state::Day;
 use desk::state::State;
 use libc::STDOUT_FILENO;
 use wire::write::put16;
@@ -12,24 +15,25 @@ fn put8(t: &mut [u8], at: usize, x: u8) {
     }
 }
 
-// "AXD", rulebook 1, version 1, 5 March 2024.
-fn head(t: &mut [u8]) {
+// "AXD", the rulebook, version 1, 5 March 2024.
+fn head(t: &mut [u8], rulebook: u8) {
     put8(t, 0, 65);
     put8(t, 1, 88);
     put8(t, 2, 68);
-    put8(t, 3, 1);
+    put8(t, 3, rulebook);
     put16(t, 4, 1);
     put32(t, 6, 20240305);
     put16(t, 10, 32);
     put16(t, 12, 512);
 }
 
-// Contracts 1 to 32: futures with a largest order of 1000.
+// Contracts 1 to 32: futures with a largest order of 1000, two to a product.
 fn contracts(t: &mut [u8]) {
     for k in 0..32 {
         let at = 16 + 8 * k;
         put16(t, at, (k + 1) as u16);
         put8(t, at + 2, 1);
+        put8(t, at + 3, (k / 2) as u8);
         put32(t, at + 4, 1000);
     }
 }
@@ -100,26 +104,80 @@ fn total(c: &[u32]) -> u64 {
     sum
 }
 
+// Every cell at its number in rulebook 2.
+fn fill_cells(c: &mut [u32]) {
+    for i in 0..c.len() {
+        c[i] = number_of(i / 32 % 3);
+    }
+}
+
+fn number_of(kind: usize) -> u32 {
+    if kind == 0 {
+        return 5;
+    }
+    if kind == 1 { 500 } else { 100 }
+}
+
+fn checksum(s: &[u8]) -> u64 {
+    let mut h: u64 = 0;
+    for i in 0..s.len() {
+        h = step(h, s[i]);
+    }
+    h
+}
+
+fn step(h: u64, x: u8) -> u64 {
+    ((h % 4294967291) * 257 + (x as u64) + 1) % 4294967291
+}
+
+fn say(n: u64, end: &[u8]) {
+    io::print_decimal(STDOUT_FILENO, n);
+    io::write_all(STDOUT_FILENO, end);
+}
+
+fn take_all(t: &[u8], b: &[u8], c: &mut [u32]) {
+    match desk::open::open(State::Closed, t, b, c) {
+        Answer::Done(state) => {
+            say(run(state, t, c, 1000000) as u64, b" ");
+            say(total(c), b"\n");
+        }
+        Answer::Refused(x) => {
+            say(x as u64, b"\n");
+        }
+    }
+}
+
+// A day of 500 records by hand, ended: the number of findings, and checksums of findings and book.
+fn end_full(t: &[u8], b: &mut [u8], c: &[u32], out: &mut [u8]) {
+    let mut row = [0u8; 20];
+    put8(&mut row, 0, 3);
+    put32(&mut row, 4, 500);
+    let head = header_of(t);
+    let state = State::Open(Day { head, taken: 500 });
+    match desk::end::end(state, t, &row, b, c, out) {
+        Ended::Done(_, n) => {
+            say(n as u64, b" ");
+            say(checksum(out), b" ");
+            say(checksum(b), b"\n");
+        }
+        Ended::Refused(x) => {
+            say(x as u64, b"\n");
+        }
+    }
+}
+
 fn main() {
     let mut t = [0u8; 4368];
-    head(&mut t);
+    head(&mut t, 1);
     contracts(&mut t);
     accounts(&mut t);
     let mut b = [0u8; 12304];
-    book::fresh::fresh(&mut b, 1);
     let mut c = [0u32; 12288];
-    let opened = desk::open::open(State::Closed, &t, &b, &mut c);
-    match opened {
-        Answer::Done(state) => {
-            let refused = run(state, &t, &mut c, 1000000);
-            io::print_decimal(STDOUT_FILENO, refused as u64);
-            io::write_all(STDOUT_FILENO, b" ");
-            io::print_decimal(STDOUT_FILENO, total(&c));
-            io::write_all(STDOUT_FILENO, b"\n");
-        }
-        Answer::Refused(x) => {
-            io::print_decimal(STDOUT_FILENO, x as u64);
-            io::write_all(STDOUT_FILENO, b"\n");
-        }
-    }
+    book::fresh::fresh(&mut b, 1);
+    take_all(&t, &b, &mut c);
+    head(&mut t, 2);
+    book::fresh::fresh(&mut b, 2);
+    fill_cells(&mut c);
+    let mut out = [0u8; 49152];
+    end_full(&t, &mut b, &c, &mut out);
 }

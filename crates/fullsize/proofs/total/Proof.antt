@@ -2,8 +2,8 @@ use mathlib.Core.Path.{_≡_}
 use Prim.Native.Nat.{_-_, _≤_}
 use lib.ListN.{length}
 use borrow.Author.Needs.{needs}
-use Rattle.bench_take.proofs.total.Statement.{statement}
-use Rattle.bench_take.proofs.total.Tie as tie
+use Rattle.fullsize.proofs.total.Statement.{statement}
+use Rattle.fullsize.proofs.total.Tie as tie
 
 abbrev Inv-loop : tie.InvT-loop
 Inv-loop c sum₀ i₀ i-end sum i = i ≤ length c

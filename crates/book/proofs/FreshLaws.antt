@@ -2,19 +2,20 @@
 use mathlib.Core.Path.{_≡_, refl, sym, _∙_}
 use mathlib.Core.Bool.{Bool, true, false, not, _&&_}
 use mathlib.Core.List.{List}
-use Prim.Native.Nat.{ℕ, _≤_, zero-le}
+use Prim.Native.Nat.{ℕ, _≤_, _<_, zero-le}
 use native.Mathlib.Omega.{arith}
-use borrow.Author.Tests.{eqb-true, eq-eqb, ne-eqb, not-false}
-use lib.Dec.{eqb}
+use borrow.Author.Tests.{eqb-true, eq-eqb, ne-eqb, not-false, le-leb}
+use lib.Dec.{leb, eqb}
 use lib.ListN.{length}
 use Rattle.wire.specs.Bytes.{bytes}
 use Rattle.wire.specs.Buffers.{put, putIn, rows}
-use Rattle.wire.proofs.ChoiceLaws.{pick-yes, pick-no, pick-zero}
+use Rattle.wire.proofs.ChoiceLaws.{pick-yes, pick-no, pick-zero, and-yes}
 use Rattle.wire.proofs.BufferLaws.{put-in, put-whole, then}
 use Rattle.book.specs.declared.fresh.NewBook.the-variants.{Made, Refused}
-use Rattle.book.specs.Layout.{headOf, bookOf}
+use Rattle.book.specs.Layout.{headOf, bookOf, rulebookOf, lastDate, totalAt}
+use Rattle.book.specs.Sound.{sound}
 use Rattle.book.specs.Fresh.{freshFault, freshAnswer, freshBook, FreshGives}
-use Rattle.book.proofs.BookLaws.{head-length, book-length}
+use Rattle.book.proofs.BookLaws.{head-length, book-length, fresh-sound, rulebook-of-book, date-of-book, total-of-book}
 
 one-or-two : (r : ℕ) → not (eqb r 1) && not (eqb r 2) ≡ false → (1 ≤ r) × (r ≤ 2)
 one-or-two r e = go (eqb r 1) (eqb r 2) refl refl e
@@ -59,3 +60,24 @@ module _ (b : List ℕ) (rulebook fault : ℕ) (e : fault ≡ freshFault (length
             (then b r₁ r₂ (headOf rulebook 0) _ 0 16 zero-le (e₁ ∙ put-in b 0 (headOf rulebook 0) (omega arith)) (omega arith) e₂
             ∙ put-whole b _ (book-length rulebook 0 (λ l. 0) ∙ sym (q .long))));
       }
+
+-- ---- a fresh book is sound, and holds its rulebook, no date and no offence
+pub record Fresh (book : List ℕ) (rulebook : ℕ) : Type 0 where
+  pub good : sound book ≡ true
+  pub date : lastDate book ≡ 0
+  pub same : rulebookOf book ≡ rulebook
+  pub totals : (l : ℕ) → l < 6144 → totalAt book l ≡ 0
+
+fresh-is : (b : List ℕ) (rulebook : ℕ) → freshFault (length b) rulebook ≡ 0 → freshBook b rulebook ≡ bookOf rulebook 0 (λ l. 0)
+unfolding freshBook
+fresh-is b rulebook e = sym (pick-yes _ _ _ _ (eq-eqb _ 0 e) refl)
+
+pub fresh-holds : (b : List ℕ) (rulebook : ℕ) → freshFault (length b) rulebook ≡ 0 → Fresh (freshBook b rulebook) rulebook
+fresh-holds b rulebook e =
+    let q = made (length b) rulebook e in
+    rw (fresh-is b rulebook e) (record {
+      good = fresh-sound rulebook (and-yes (leb 1 rulebook) (leb rulebook 2) (le-leb 1 rulebook (q .first-rulebook)) (le-leb rulebook 2 (q .last-rulebook)));
+      date = date-of-book rulebook 0 (λ l. 0) (omega arith);
+      same = rulebook-of-book rulebook 0 (λ l. 0);
+      totals = λ l h. total-of-book rulebook 0 (λ l. 0) l h (omega arith);
+    })

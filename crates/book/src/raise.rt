@@ -3,11 +3,8 @@ use wire::read::get8;
 use wire::read::get16;
 use wire::write::put16;
 ghost use mathlib.Core.Path.{_≡_};
-ghost use Prim.Native.Nat.{_+_, _*_, _≤_, _<_};
-ghost use lib.ListN.{length};
-ghost use Rattle.wire.specs.Buffers.{put};
-ghost use Rattle.wire.specs.Bytes.{bytes, le};
-ghost use Rattle.book.specs.Raise.{raised, hitAt, raisedPart};
+ghost use Prim.Native.Nat.{_+_, _*_, _<_};
+ghost use Rattle.book.specs.Raise.{raised, raisedPart};
 
 // A total after the day: from zero in a later year, and one more with an offence.
 pub fn raise_total(later: bool, hit: bool, total: u16) -> u16

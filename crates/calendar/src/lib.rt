@@ -1,6 +1,6 @@
 // Real days of the Gregorian calendar from 2000 to 2099, written as yyyymmdd.
 ghost use mathlib.Core.Path.{_≡_};
-ghost use Prim.Native.Nat.{_*_, _≤_};
+ghost use Prim.Native.Nat.{_≤_};
 ghost use Rattle.calendar.specs.Dates.{year, leap, monthDays, realDay, daysIn, dayNumber};
 
 // The year of a date.

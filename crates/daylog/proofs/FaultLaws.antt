@@ -1,19 +1,14 @@
 -- What is known of a log in which opening's checks 1 to 8 find no fault. Assumes nothing.
-use mathlib.Core.Path.{_≡_, sym, _∙_}
-use mathlib.Core.Bool.{Bool, true, false, _&&_, not}
+use mathlib.Core.Path.{_≡_}
+use mathlib.Core.Bool.{_&&_}
 use mathlib.Core.List.{List}
-use Prim.Native.Nat.{ℕ, _+_, _*_, _≤_}
+use Prim.Native.Nat.{ℕ}
 use borrow.Author.Tests.{ltb-false, eqb-true, not-false}
 use lib.Dec.{lit<, eqb}
-use lib.ListN.{length}
 use Rattle.wire.specs.Choice.{within}
 use Rattle.wire.proofs.ChoiceLaws.{pick-zero, and-left, and-right, bounds}
-use Rattle.calendar.specs.Dates.{realDay}
-use Rattle.daylog.specs.declared.header.Header.{Header}
 use Rattle.daylog.specs.Sound.{Sound}
-use Rattle.daylog.specs.Header.{headerOf, sizesGood, contractsPart, accountsPart, tablesFault, headFault, logFault}
-use Rattle.daylog.specs.Contracts.{contractsGood}
-use Rattle.daylog.specs.Accounts.{accountsGood}
+use Rattle.daylog.specs.Header.{headerOf, sizesGood, tablesFault, headFault, logFault}
 
 pub log-sound : (log : List ℕ) → logFault log ≡ 0 → Sound (headerOf log) log
 unfolding logFault headFault tablesFault

@@ -1,13 +1,13 @@
 -- Laws of ending a day: the parts that are lent on, the day as it is written, and the answer by the refusal. Assumes nothing.
 use mathlib.Core.Path.{_≡_, refl, sym, ap, ap₂, _∙_}
-use mathlib.Core.Bool.{Bool, true, false, _&&_, not}
-use mathlib.Core.List.{List, _++_, append-assoc, append-nil}
-use Prim.Native.Nat.{ℕ, _+_, _-_, _*_, _/_, _<_, _≤_, zero-le}
+use mathlib.Core.Bool.{Bool}
+use mathlib.Core.List.{List, _++_}
+use Prim.Native.Nat.{ℕ, _+_, _-_, _*_, _<_, _≤_}
 use native.Mathlib.Omega.{arith}
 use borrow.Author.Tests.{eq-eqb, ne-eqb, not-false}
-use lib.Dec.{ltb, eqb, lit<}
-use lib.ListN.{length, getD, take, drop, length-take, length-drop, length-append}
-use Rattle.wire.specs.Choice.{pick, orElse}
+use lib.Dec.{ltb, lit<}
+use lib.ListN.{length, take, drop, length-take, length-drop}
+use Rattle.wire.specs.Choice.{orElse}
 use Rattle.wire.specs.Buffers.{put, putIn, rows}
 use Rattle.wire.proofs.ChoiceLaws.{pick-yes, pick-no, or-else, or-first-by, or-none, pick-zero}
 use Rattle.wire.proofs.BufferLaws.{put-in, put-both, length-put, rows-length, rows-cong}
@@ -17,7 +17,7 @@ use Rattle.daylog.specs.declared.header.Header.{Header}
 use Rattle.daylog.specs.Header.{headerOf, contractsPart, accountsPart}
 use Rattle.daylog.specs.Entries.{entries}
 use Rattle.daylog.specs.Sound.{Sound}
-use Rattle.book.specs.Layout.{headOf, lastDate, totalAt, ladders, bookOf}
+use Rattle.book.specs.Layout.{headOf, lastDate, ladders, bookOf}
 use Rattle.book.proofs.BookLaws.{head-length, sound-facts}
 use Rattle.wire.specs.Bytes.{bytes}
 use Rattle.daylog.specs.Tables.{tablesIn, tablesOf}

@@ -11,8 +11,6 @@ use Rattle.wire.proofs.PlaceLaws.{first-at, first-none}
 use Rattle.wire.proofs.BufferLaws.{put-whole, then-row, rows-length}
 use Rattle.rules.specs.declared.measure.Times.{Times}
 use Rattle.rules.specs.Measure.{times, enough, reached}
-use Rattle.rules.specs.Ladders.{family}
-use Rattle.daylog.specs.Contracts.{contractIn}
 use Rattle.desk.specs.Cells.{cellOf}
 use Rattle.desk.specs.Offences.{groupAt, kindAt, familyAt, reachedAt, lowest}
 use Rattle.desk.specs.End.{inCells}
@@ -41,10 +39,6 @@ module _ (rulebook : ℕ) (fams c : List ℕ) (ladder : ℕ) where
   pub place-nowhere : ((j : ℕ) → j < length fams → reachedIn j ≡ false) → length fams ≡ placeAt rulebook fams c ladder
   unfolding placeAt lowest
   place-nowhere none = sym (first-none reachedIn (length fams) none)
-
--- the family of the contract at a place
-abbrev pub familyIn : ℕ → List ℕ → ℕ → ℕ
-familyIn rulebook contracts k = family rulebook (contractIn contracts k .sort) (contractIn contracts k .product)
 
 -- ---- bytes written from a buffer's start
 module _ (f : ℕ → ℕ) (s : List ℕ) where

@@ -8,4 +8,6 @@ pub mod ListedLaws
 pub mod ListingLaws
 pub mod RaiseLaws
 pub mod EndLaws
+pub mod BookKept
 pub mod Unique
+pub mod Numbers

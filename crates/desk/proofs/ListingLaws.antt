@@ -1,20 +1,17 @@
 -- Judging as it is done is judging by the rules: the places that are filled give the day's offences, findings and totals.
 -- Assumes nothing.
-use mathlib.Core.Path.{_≡_, refl, sym, ap, ap₂, _∙_}
+use mathlib.Core.Path.{_≡_, refl, sym, ap, _∙_}
 use mathlib.Core.Bool.{Bool, true, false, _&&_}
-use mathlib.Core.List.{List, [], _∷_}
-use Prim.Native.Nat.{ℕ, _+_, _*_, _<_}
-use native.Mathlib.Omega.{arith}
+use mathlib.Core.List.{List, []}
+use Prim.Native.Nat.{ℕ, _<_}
 use borrow.Author.Tests.{lt-ltb, ltb-true}
 use lib.Dec.{ltb, eqb}
 use lib.ListN.{length, getD}
-use Rattle.wire.specs.Choice.{pick}
-use Rattle.wire.specs.Places.{first, count}
+use Rattle.wire.specs.Places.{first}
 use Rattle.wire.specs.Bytes.{bytes}
-use Rattle.wire.specs.Buffers.{rows}
 use Rattle.wire.proofs.ChoiceLaws.{pick-yes, pick-no}
 use Rattle.wire.proofs.PlaceLaws.{first-cong, count-cong}
-use Rattle.wire.proofs.BufferLaws.{ones-at, ones-length, rows-cong}
+use Rattle.wire.proofs.BufferLaws.{ones-at, ones-length}
 use Rattle.rules.specs.Measure.{times, enough, reached}
 use Rattle.rules.specs.Ladders.{family, rung, sanction}
 use Rattle.daylog.specs.Entries.{entries}
@@ -24,9 +21,9 @@ use Rattle.daylog.specs.Tables.{Tables, tablesIn}
 use Rattle.book.specs.Layout.{ladders, totalAt}
 use Rattle.book.specs.Raise.{raised}
 use Rattle.desk.specs.Offences.{groupAt, kindAt, familyAt, familyOf, reachedAt, lowest, lowestOn, offendsOn}
-use Rattle.desk.specs.Findings.{memberOn, laterYear, finding, totalAfter, foundAt, findings, foundCount}
+use Rattle.desk.specs.Findings.{memberOn, laterYear, finding, totalAfter, foundAt, foundCount}
 use Rattle.desk.specs.End.{inCells}
-use Rattle.desk.specs.Listing.{familiesIn, placeAt, placesIn, hitBy, hits, raisedTo, foundBy, foundWith, totalBytes}
+use Rattle.desk.specs.Listing.{familyIn, familiesIn, placeAt, placesIn, hitBy, hits, raisedTo, foundBy, foundWith, totalBytes}
 
 -- within the table, the entry at a place is there
 pub entry-in : (s : List ℕ) (k : ℕ) → k < entries s → contractIn s k ≡ contractAt s k
@@ -45,12 +42,12 @@ module _ (rulebook : ℕ) (contracts accounts c : List ℕ) where
 
   pub families-length : length fams ≡ entries contracts
   unfolding familiesIn
-  families-length = ones-length (λ k. family rulebook (contractIn contracts k .sort) (contractIn contracts k .product)) (entries contracts)
+  families-length = ones-length (familyIn rulebook contracts) (entries contracts)
 
   pub family-is : (k : ℕ) → k < entries contracts → getD fams k 0 ≡ familyOf day k
   unfolding familiesIn familyOf tablesIn
   family-is k h =
-      ones-at (λ k. family rulebook (contractIn contracts k .sort) (contractIn contracts k .product)) (entries contracts) k h
+      ones-at (familyIn rulebook contracts) (entries contracts) k h
       ∙ ap (λ e. family rulebook (e .sort) (e .product)) (entry-in contracts k h)
 
   pub place-is : (l : ℕ) → placeAt rulebook fams c l ≡ lowestOn day (inCells c) l

@@ -1,9 +1,9 @@
 -- Laws of a call's answer and counts, by the number of its refusal. Assumes nothing.
-use mathlib.Core.Path.{_≡_, refl, sym, ap, _∙_}
+use mathlib.Core.Path.{_≡_, refl, ap, _∙_}
 use mathlib.Core.List.{List}
 use Prim.Native.Nat.{ℕ}
 use borrow.Author.Tests.{eq-eqb, ne-eqb}
-use Rattle.wire.specs.Choice.{pick, orElse}
+use Rattle.wire.specs.Choice.{orElse}
 use Rattle.wire.proofs.ChoiceLaws.{pick-yes, pick-no, or-else, or-first-by}
 use Rattle.desk.specs.declared.state.State.{State}
 use Rattle.desk.specs.declared.state.Answer.{Answer}

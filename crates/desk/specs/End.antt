@@ -63,6 +63,11 @@ abbrev pub dateOf : State → ℕ
 dateOf Closed = 0
 dateOf (Open day) = day .head .date
 
+-- the paper's number of an answer: the refusal's, or 0 for none
+abbrev pub endNumber : Ended → ℕ
+endNumber (Done state found) = 0
+endNumber (Refused number) = number
+
 -- what ending gives, by the number of its refusal: the day closed with the number of findings, or the refusal; the book; the
 -- findings. Where it refuses, both buffers are as they were.
 pub record Ends (fault found : ℕ) (newBook oldBook newOut oldOut : List ℕ) (a : Ended) (book out : List ℕ) : Type 0 where

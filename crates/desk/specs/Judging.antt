@@ -1,6 +1,6 @@
 -- 01, "The calls and their refusals": the refusals that a record brings by itself and by the tables.
 use Prim.Native.Nat.{ℕ}
-use mathlib.Core.Bool.{Bool, _&&_, not}
+use mathlib.Core.Bool.{_&&_, not}
 use lib.Dec.{eqb}
 use Rattle.wire.specs.Choice.{pick}
 use Rattle.daylog.specs.declared.record.Record.{Record}

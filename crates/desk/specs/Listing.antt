@@ -1,6 +1,6 @@
 -- Judging as it is done: the contracts' families and each ladder's lowest place as bytes, and what follows from them.
 -- proofs/ListingLaws shows that this is specs/Findings.
-use Prim.Native.Nat.{ℕ, _+_, _*_}
+use Prim.Native.Nat.{ℕ, _+_}
 use mathlib.Core.Bool.{Bool, true}
 use mathlib.Core.Path.{_≡_}
 use mathlib.Core.List.{List, [], _∷_, _++_}
@@ -22,10 +22,12 @@ use Rattle.desk.specs.Offences.{groupAt, lowest}
 use Rattle.desk.specs.End.{inCells}
 use Rattle.desk.specs.Findings.{laterYear, finding}
 
--- the family of each contract, a byte a contract
+-- the family of the contract at a place, and of each, a byte a contract
+abbrev pub familyIn : ℕ → List ℕ → ℕ → ℕ
+familyIn rulebook contracts k = family rulebook (contractIn contracts k .sort) (contractIn contracts k .product)
+
 unfoldable pub familiesIn : ℕ → List ℕ → List ℕ
-familiesIn rulebook contracts =
-    rows (λ k. family rulebook (contractIn contracts k .sort) (contractIn contracts k .product) ∷ []) (entries contracts)
+familiesIn rulebook contracts = rows (λ k. familyIn rulebook contracts k ∷ []) (entries contracts)
 
 -- the lowest place that reached a ladder's number, by the families
 unfoldable pub placeAt : ℕ → List ℕ → List ℕ → ℕ → ℕ

@@ -1,6 +1,6 @@
 -- 01, "The calls and their refusals": opening a day. "Open: 10, 1 (under 16), 2, 3, 4, 5, 6, 1, 7, 8, 17, 18, 9, 16."
 use Prim.Native.Nat.{ℕ}
-use mathlib.Core.Bool.{Bool, not}
+use mathlib.Core.Bool.{not}
 use mathlib.Core.List.{List, _++_}
 use lib.Dec.{leb, ltb, eqb}
 use lib.ListN.{length, drop, replicate}

@@ -1,6 +1,6 @@
 -- 01, "The calls and their refusals": taking a record. "Take: 10, 1, 16, 19 (tables), 11, 12, 13, 14, 19 (cells)."
 use Prim.Native.Nat.{ℕ, _+_}
-use mathlib.Core.Bool.{Bool, not}
+use mathlib.Core.Bool.{not}
 use mathlib.Core.List.{List}
 use lib.Dec.{leb, ltb, eqb}
 use lib.ListN.{length}

@@ -7,7 +7,7 @@ use rules::measure::is_reached;
 ghost use mathlib.Core.Path.{_≡_};
 ghost use mathlib.Core.List.{[], _∷_};
 ghost use Prim.Native.Nat.{_≤_, _<_};
-ghost use lib.ListN.{length, getD};
+ghost use lib.ListN.{length};
 ghost use Rattle.wire.specs.Choice.{pick};
 ghost use Rattle.wire.specs.Buffers.{put};
 ghost use Rattle.daylog.specs.Entries.{entries};

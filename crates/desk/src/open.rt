@@ -14,7 +14,7 @@ ghost use mathlib.Core.Path.{_≡_};
 ghost use mathlib.Core.List.{_++_};
 ghost use Prim.Native.Nat.{_≤_};
 ghost use lib.ListN.{length, drop, replicate};
-ghost use Rattle.desk.specs.Open.{bookFault, roomFault, handedFault, OpenGives};
+ghost use Rattle.desk.specs.Open.{bookFault, handedFault, OpenGives};
 
 // The day's book: sound, of the day's rulebook, and with an earlier last date.
 pub(crate) fn book_fault(h: Header, book: &[u8]) -> u32

@@ -2,14 +2,13 @@
 use mathlib.Core.Path.{_≡_, refl, sym, ap, ap₂, _∙_}
 use mathlib.Core.Logic.{⊎-elim}
 use mathlib.Core.List.{List, [], _∷_, _++_, append-assoc, append-nil}
-use Prim.Native.Nat.{ℕ, zero, suc, _+_, _-_, _*_, _^_, _<_, _≤_, zero-le}
+use Prim.Native.Nat.{ℕ, zero, suc, _+_, _-_, _*_, _^_, _<_, _≤_}
 use native.Mathlib.Nat.{zero-add, le-of-suc-le-suc, not-suc-le-zero, eq-or-lt-of-le, add-zero, add-suc, mul-zero, mul-suc, mul-le-mul-left}
 use native.Mathlib.Numerals.{add-one}
 use native.Mathlib.Omega.{arith}
 use borrow.Author.Tests.{le-leb, lt-leb}
 use lib.ListN.{length, getD, take, drop, set, length-append, length-take, length-drop, take-append-drop, drop-of-length-le, List·getD-append}
-use lib.Seq.{take-at, drop-at, drop-drop, getD-take, getD-drop, getD-append-add, length-take-le, take-all, drop-length, sets, sets-eq}
-use Rattle.wire.specs.Choice.{pick}
+use lib.Seq.{take-at, drop-at, drop-drop, getD-take, getD-drop, getD-append-add, length-take-le, drop-length, sets, sets-eq}
 use Rattle.wire.specs.Bytes.{le, bytes}
 use Rattle.wire.specs.Buffers.{put, putIn, rows}
 use Rattle.wire.proofs.ChoiceLaws.{pick-yes, pick-no}

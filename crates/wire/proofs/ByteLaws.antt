@@ -1,12 +1,11 @@
 -- Laws of numbers in bytes, over the width. Assumes nothing.
 use mathlib.Core.Path.{_≡_, refl, ap, ap₂, sym, _∙_}
-use mathlib.Core.List.{List, [], _∷_, _++_}
+use mathlib.Core.List.{List, _∷_}
 use Prim.Native.Nat.{ℕ, zero, suc, _+_, _*_, _/_, _%_, _^_, _≤_, _<_}
-use native.Mathlib.Nat.{add-zero, suc-add, add-suc, zero-add, add-assoc, pow-succ', one-mul, mul-assoc, mod-add-div, div-lt-iff-lt-mul}
-use native.Mathlib.Numerals.{add-one}
+use native.Mathlib.Nat.{add-zero, suc-add, add-suc, zero-add, add-assoc, pow-succ', one-mul, mul-assoc}
 use native.Mathlib.Omega.{arith}
-use lib.ListN.{length, getD, take, drop, List·getD-eq-default, List·getD-append}
-use lib.Seq.{getD-drop, getD-take, getD-append-add}
+use lib.ListN.{length, getD, take, drop, List·getD-eq-default}
+use lib.Seq.{getD-drop, getD-take}
 use Rattle.wire.specs.Bytes.{le, bytes}
 
 -- past the end there is nothing

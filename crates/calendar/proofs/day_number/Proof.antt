@@ -2,7 +2,7 @@ use mathlib.Core.Path.{_≡_, _∙_, sym, ap}
 use Prim.Native.Nat.{ℕ, _+_, _-_}
 use native.Mathlib.Omega.{arith}
 use Rattle.wire.proofs.ChoiceLaws.{told-yes, told-no}
-use Rattle.calendar.specs.Dates.{realDay, month, day, daysIn, dayNumber}
+use Rattle.calendar.specs.Dates.{month, day, daysIn, dayNumber}
 use Rattle.calendar.proofs.DateLaws.{real, number-of, number-none, number-most}
 use borrow.Author.Needs.{needs}
 use Rattle.calendar.proofs.day_number.Statement.{statement}

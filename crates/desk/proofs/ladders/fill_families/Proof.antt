@@ -8,8 +8,8 @@ use Rattle.wire.specs.Buffers.{put, rows}
 use Rattle.wire.proofs.BufferLaws.{no-rows}
 use Rattle.rules.specs.Ladders.{family}
 use Rattle.daylog.specs.Entries.{entries}
-use Rattle.desk.specs.Listing.{familiesIn}
-use Rattle.desk.proofs.LadderLaws.{byte-turn, bytes-all, familyIn}
+use Rattle.desk.specs.Listing.{familiesIn, familyIn}
+use Rattle.desk.proofs.LadderLaws.{byte-turn, bytes-all}
 use Rattle.desk.proofs.ladders.fill_families.Statement.{statement}
 use Rattle.desk.proofs.ladders.fill_families.Tie as tie
 

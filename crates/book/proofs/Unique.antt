@@ -10,7 +10,7 @@ use Rattle.book.specs.Layout.{headOf, rulebookOf, lastDate}
 use Rattle.book.specs.Sound.{sound}
 use Rattle.book.specs.Fresh.{FreshGives}
 use Rattle.book.specs.Ask.{askAnswer}
-use Rattle.book.specs.Raise.{raisedPart}
+use Rattle.book.specs.Raise.{raised, raisedPart}
 
 pub is-sound-unique : (b : List ℕ) (r₁ r₂ : Bool) → r₁ ≡ sound b → r₂ ≡ sound b → r₁ ≡ r₂
 is-sound-unique b r₁ r₂ p q = p ∙ sym q
@@ -36,3 +36,6 @@ ask-unique b group kind family r₁ r₂ p q = p ∙ sym q
 pub raise-group-unique : (part : List ℕ) (later : Bool) (places : List ℕ) (contracts : ℕ) (part₁ part₂ : List ℕ)
     → part₁ ≡ raisedPart part later places contracts → part₂ ≡ raisedPart part later places contracts → part₁ ≡ part₂
 raise-group-unique part later places contracts part₁ part₂ p q = p ∙ sym q
+
+pub raise-total-unique : (later hit : Bool) (total : ℕ) (r₁ r₂ : ℕ) → r₁ ≡ raised later hit total → r₂ ≡ raised later hit total → r₁ ≡ r₂
+raise-total-unique later hit total r₁ r₂ p q = p ∙ sym q

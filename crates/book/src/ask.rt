@@ -1,5 +1,7 @@
 // Asking a book for a total and its rung.
 use crate::sound::is_sound;
+use wire::refusal::NOT_SOUND;
+use wire::refusal::OUT_OF_RANGE;
 ghost use mathlib.Core.Path.{_≡_};
 ghost use Rattle.book.specs.Ask.{askFault, askAnswer};
 
@@ -13,10 +15,10 @@ fn ask_fault(book: &[u8], group: u64, kind: u64, family: u64) -> u32
     ensures { λ r. ⌜ r ≡ askFault (now (book .entry)) group kind family ⌝ }
 {
     if !is_sound(book) {
-        return 17;
+        return NOT_SOUND;
     }
     if !(((1 <= group) & (group <= 128)) & ((1 <= kind) & (kind <= 3)) & (family <= 15)) {
-        return 21;
+        return OUT_OF_RANGE;
     }
     0
 }

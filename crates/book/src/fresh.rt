@@ -1,5 +1,7 @@
 // Making a fresh book.
 use crate::head::put_head;
+use wire::refusal::NOT_SOUND;
+use wire::refusal::RULEBOOK;
 use wire::write::put16;
 ghost use mathlib.Core.Path.{_≡_};
 ghost use lib.ListN.{length};
@@ -25,10 +27,10 @@ fn fresh_fault(len: usize, rulebook: u64) -> u32
     ensures { λ r. ⌜ r ≡ freshFault len rulebook ⌝ }
 {
     if (rulebook != 1) & (rulebook != 2) {
-        return 4;
+        return RULEBOOK;
     }
     if len != 12304 {
-        return 17;
+        return NOT_SOUND;
     }
     0
 }

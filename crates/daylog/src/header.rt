@@ -4,6 +4,14 @@ use crate::contracts::contracts_good;
 use wire::read::get8;
 use wire::read::get16;
 use wire::read::get32;
+use wire::refusal::ACCOUNT_ENTRY;
+use wire::refusal::CONTRACT_ENTRY;
+use wire::refusal::DATE;
+use wire::refusal::LENGTH;
+use wire::refusal::MARK;
+use wire::refusal::RULEBOOK;
+use wire::refusal::SIZES;
+use wire::refusal::VERSION;
 ghost use mathlib.Core.Path.{_≡_};
 ghost use Prim.Native.Nat.{_+_, _*_, _≤_};
 ghost use lib.ListN.{length};
@@ -54,13 +62,13 @@ fn tables_fault(h: Header, log: &[u8]) -> u32
 {
     let middle = 16 + 8 * (h.contracts as usize);
     if log.len() != middle + 8 * (h.accounts as usize) {
-        return 1;
+        return LENGTH;
     }
     if !contracts_good(h.rulebook, &log[16..middle]) {
-        return 7;
+        return CONTRACT_ENTRY;
     }
     if !accounts_good(&log[middle..]) {
-        return 8;
+        return ACCOUNT_ENTRY;
     }
     0
 }
@@ -71,16 +79,16 @@ fn head_fault(h: Header, log: &[u8]) -> u32
     ensures { λ r. ⌜ r ≡ headFault h (now (log .entry)) ⌝ }
 {
     if h.version != 1 {
-        return 3;
+        return VERSION;
     }
     if (h.rulebook != 1) & (h.rulebook != 2) {
-        return 4;
+        return RULEBOOK;
     }
     if !calendar::is_day(h.date) {
-        return 5;
+        return DATE;
     }
     if !sizes_good(h) {
-        return 6;
+        return SIZES;
     }
     tables_fault(h, log)
 }
@@ -90,10 +98,10 @@ pub fn log_fault(log: &[u8]) -> u32
     ensures { λ r. ⌜ r ≡ logFault (now (log .entry)) ⌝ }
 {
     if log.len() < 16 {
-        return 1;
+        return LENGTH;
     }
     if !mark_good(log) {
-        return 2;
+        return MARK;
     }
     head_fault(header_of(log), log)
 }

@@ -1,7 +1,7 @@
 // Abandoning a day: it closes, and nothing is written.
-use crate::refusal::WRONG_STATE;
 use crate::state::Answer;
 use crate::state::State;
+use wire::refusal::WRONG_STATE;
 ghost use mathlib.Core.Path.{_≡_};
 ghost use Rattle.desk.specs.Abandon.{abandonAnswer};
 

@@ -1,7 +1,4 @@
 // One record judged against sound tables: what it counts for, and where.
-use crate::refusal::FIELDS;
-use crate::refusal::NO_ACCOUNT;
-use crate::refusal::NO_CONTRACT;
 use daylog::accounts::find_account;
 use daylog::contracts::Contract;
 use daylog::contracts::Found;
@@ -11,6 +8,9 @@ use daylog::record::record_good;
 use rules::exemption::is_exempt;
 use rules::measure::is_large;
 use wire::read::get8;
+use wire::refusal::FIELDS;
+use wire::refusal::NO_ACCOUNT;
+use wire::refusal::NO_CONTRACT;
 ghost use mathlib.Core.Path.{_≡_};
 ghost use mathlib.Core.Bool.{true};
 ghost use Prim.Native.Nat.{_≤_};

@@ -6,7 +6,6 @@ mod findings;
 mod judge;
 mod ladders;
 pub mod open;
-pub mod refusal;
 pub mod state;
 mod tables;
 pub mod take;

@@ -1,15 +1,15 @@
 // Opening a day.
-use crate::refusal::COUNTS_SHORT;
-use crate::refusal::NOT_LATER;
-use crate::refusal::NOT_SOUND;
-use crate::refusal::OTHER_RULEBOOK;
-use crate::refusal::WRONG_STATE;
 use crate::state::Answer;
 use crate::state::Day;
 use crate::state::State;
 use daylog::header::Header;
 use daylog::header::header_of;
 use daylog::header::log_fault;
+use wire::refusal::COUNTS_SHORT;
+use wire::refusal::NOT_LATER;
+use wire::refusal::NOT_SOUND;
+use wire::refusal::OTHER_RULEBOOK;
+use wire::refusal::WRONG_STATE;
 ghost use mathlib.Core.Path.{_≡_};
 ghost use mathlib.Core.List.{_++_};
 ghost use Prim.Native.Nat.{_≤_};

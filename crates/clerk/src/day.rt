@@ -1,0 +1,139 @@
+// One day of the desk, from standard input: opened, its records taken, ended.
+use crate::input::Got;
+use crate::input::fill_from_input;
+use desk::end::Ended;
+use desk::state::Answer;
+use desk::state::State;
+use wire::refusal::FULL;
+use wire::refusal::LENGTH;
+ghost use Prim.Native.Nat.{_≤_};
+ghost use lib.ListN.{length};
+
+// The type of the end record.
+const END: u8 = 3;
+
+// The bytes read at once: 3,276 whole records, so that none straddles two pieces.
+const PIECE: usize = 65520;
+
+// More turns than there are pieces: each takes a record or is the last, and the 1,000,001st record is refused.
+const TURNS: u32 = 1000001;
+
+pub(crate) enum Outcome {
+    // The number of findings.
+    Ended(usize),
+    Refused(u32),
+}
+
+// Records passed: the state after them, the place of the first that was not taken, and the refusal's number, 0 for none.
+struct Passed {
+    state: State,
+    at: usize,
+    fault: u32,
+}
+
+// Takes the whole records of a piece, up to an end record.
+fn take_rows(start: State, log: &[u8], rows: &[u8], counts: &mut [u32]) -> Passed
+    ensures { λ r. ⌜ r .at ≤ length (now (rows .entry)) ⌝ }
+{
+    let mut state = start;
+    for k in 0..rows.len() / 20 {
+        let at = 20 * k;
+        if rows[at] == END {
+            return Passed {
+                state,
+                at,
+                fault: 0,
+            };
+        }
+        match desk::take::take(state, log, &rows[at..at + 20], counts) {
+            Answer::Done(next) => {
+                state = next;
+            }
+            Answer::Refused(fault) => {
+                return Passed { state, at, fault };
+            }
+        }
+    }
+    Passed {
+        state,
+        at: rows.len() / 20 * 20,
+        fault: 0,
+    }
+}
+
+// Whether anything follows an end record, which has `left` bytes from its own first on in its piece. A piece that is not
+// full is the last; after a read that failed nobody can tell, and the log counts as cut off.
+fn is_followed(left: usize, piece: Got) -> bool {
+    if (left != 20) | piece.failed {
+        return true;
+    }
+    if piece.count < PIECE {
+        return false;
+    }
+    let mut one = [0u8; 1];
+    let next = fill_from_input(&mut one);
+    (next.count != 0) | next.failed
+}
+
+// Bytes after the end record are a refusal only where the end itself is accepted.
+fn unless_followed(outcome: Outcome, left: usize, piece: Got) -> Outcome {
+    if let Outcome::Ended(_) = outcome {
+        if is_followed(left, piece) {
+            return Outcome::Refused(LENGTH);
+        }
+    }
+    outcome
+}
+
+fn end_day(
+    state: State,
+    log: &[u8],
+    row: &[u8],
+    book: &mut [u8],
+    counts: &[u32],
+    findings: &mut [u8],
+) -> Outcome {
+    match desk::end::end(state, log, row, book, counts, findings) {
+        Ended::Done(_, found) => Outcome::Ended(found),
+        Ended::Refused(number) => Outcome::Refused(number),
+    }
+}
+
+// Reads the records piece by piece: the log is never held whole.
+fn take_all(
+    start: State,
+    log: &[u8],
+    book: &mut [u8],
+    counts: &mut [u32],
+    findings: &mut [u8],
+) -> Outcome {
+    let mut piece = [0u8; PIECE];
+    let mut state = start;
+    for _ in 0..TURNS {
+        let got = fill_from_input(&mut piece);
+        let count = got.count;
+        let passed = take_rows(state, log, &piece[0..count], counts);
+        if passed.fault != 0 {
+            return Outcome::Refused(passed.fault);
+        }
+        state = passed.state;
+        let at = passed.at;
+        if 20 <= count - at {
+            let outcome = end_day(state, log, &piece[at..at + 20], book, counts, findings);
+            return unless_followed(outcome, count - at, got);
+        }
+        if count < PIECE {
+            return Outcome::Refused(LENGTH);
+        }
+    }
+    Outcome::Refused(FULL)
+}
+
+// Opening comes before the records, so a bad book wins over a log that is cut off further on.
+pub(crate) fn judge_day(log: &[u8], book: &mut [u8], findings: &mut [u8]) -> Outcome {
+    let mut counts = [0u32; 12288];
+    match desk::open::open(State::Closed, log, book, &mut counts) {
+        Answer::Done(state) => take_all(state, log, book, &mut counts, findings),
+        Answer::Refused(number) => Outcome::Refused(number),
+    }
+}

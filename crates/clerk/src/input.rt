@@ -1,0 +1,88 @@
+// Reading: a buffer is filled whatever the size of the drops in which the bytes come.
+use daylog::header::header_of;
+use libc::STDIN_FILENO;
+ghost use mathlib.Core.Path.{_≡_};
+ghost use Prim.Native.Nat.{_≤_};
+ghost use lib.ListN.{length};
+
+// How many bytes came, and whether a read failed after them. Fewer than asked for is the end of what can be read.
+pub(crate) struct Got {
+    pub count: usize,
+    pub failed: bool,
+}
+
+fn read_some(fd: i32, part: &mut [u8]) -> Got
+    ensures { λ r. ⌜ r .count ≤ length (now (part .exit)) ⌝ }
+{
+    let got = libc::read(fd, part);
+    Got {
+        count: io::count(got, part),
+        failed: got < 0,
+    }
+}
+
+pub(crate) fn fill(fd: i32, buf: &mut [u8]) -> Got
+    ensures { λ r. ⌜ r .count ≤ length (now (buf .exit)) ⌝ }
+{
+    let mut done = 0;
+    while done < buf.len() {
+        let got = read_some(fd, &mut buf[done..]);
+        let count = got.count;
+        if count == 0 {
+            return Got {
+                count: done,
+                failed: got.failed,
+            };
+        }
+        done += count;
+    }
+    Got {
+        count: done,
+        failed: false,
+    }
+}
+
+// Standard input that cannot be read counts as cut off there, and the clerk is told why.
+pub(crate) fn fill_from_input(buf: &mut [u8]) -> Got
+    ensures { λ r. ⌜ r .count ≤ length (now (buf .exit)) ⌝ }
+{
+    let got = fill(STDIN_FILENO, buf);
+    if got.failed {
+        os::fail(b"clerk: standard input cannot be read");
+    }
+    got
+}
+
+// The bytes of the two tables, or 0 where the header's numbers allow none: opening then refuses by the header alone.
+fn tables_size(head: &[u8]) -> usize
+    ensures { λ r. ⌜ r ≤ 4352 ⌝ }
+{
+    let h = header_of(head);
+    let contracts = h.contracts as usize;
+    let accounts = h.accounts as usize;
+    if 32 < contracts {
+        return 0;
+    }
+    if 512 < accounts {
+        return 0;
+    }
+    if (contracts == 0) | (accounts == 0) {
+        return 0;
+    }
+    8 * contracts + 8 * accounts
+}
+
+// Reads the header and its tables, as far as they are there, and answers how many bytes came.
+pub(crate) fn read_tables(log: &mut [u8]) -> usize
+    requires { ⌜ length (now log) ≡ 4368 ⌝ }
+    ensures { λ r. ⌜ r ≤ length (now (log .exit)) ⌝ }
+{
+    let head = fill_from_input(&mut log[0..16]);
+    let count = head.count;
+    if count < 16 {
+        return count;
+    }
+    let end = 16 + tables_size(log);
+    let tables = fill_from_input(&mut log[16..end]);
+    16 + tables.count
+}

@@ -25,3 +25,8 @@ askAnswer b group kind family =
     pick (eqb (askFault b group kind family) 0)
     (Total (totalAt b (ladderOf group kind family)) (rung (totalAt b (ladderOf group kind family))))
     (Refused (askFault b group kind family))
+
+-- the paper's number of an answer: the refusal's, or 0 for none
+abbrev pub askNumber : Asked → ℕ
+askNumber (Total total rung′) = 0
+askNumber (Refused number) = number

@@ -20,6 +20,11 @@ freshFault len rulebook =
 unfoldable pub freshAnswer : List ℕ → ℕ → NewBook
 freshAnswer b rulebook = pick (eqb (freshFault (length b) rulebook) 0) Made (Refused (freshFault (length b) rulebook))
 
+-- the paper's number of an answer: the refusal's, or 0 for none
+abbrev pub freshNumber : NewBook → ℕ
+freshNumber Made = 0
+freshNumber (Refused number) = number
+
 -- no last date, and every total 0; a refusal leaves the buffer
 unfoldable pub freshBook : List ℕ → ℕ → List ℕ
 freshBook b rulebook = pick (eqb (freshFault (length b) rulebook) 0) (bookOf rulebook 0 (λ l. 0)) b

@@ -1,0 +1,104 @@
+-- Any list of calls as customers make them: "each call is handed the state, tables, counts and book as the call before left
+-- them". What a call gives is what its contract promises, and nothing else is known of it.
+use mathlib.Core.Path.{_≡_}
+use Prim.Native.Nat.{ℕ}
+use mathlib.Core.List.{List, [], _∷_}
+use Rattle.book.specs.declared.fresh.NewBook.{NewBook}
+use Rattle.book.specs.declared.ask.Asked.{Asked}
+use Rattle.book.specs.Fresh.{freshNumber, FreshGives}
+use Rattle.book.specs.Ask.{askNumber, askAnswer}
+use Rattle.desk.specs.declared.state.State.{State}
+use Rattle.desk.specs.declared.state.Answer.{Answer}
+use Rattle.desk.specs.declared.state.Answer.the-variants.{Done, Refused}
+use Rattle.desk.specs.declared.end.Ended.{Ended}
+use Rattle.desk.specs.declared.end.Ended.the-variants.{Done as EndDone, Refused as EndRefused}
+use Rattle.desk.specs.Answers.{numberOf}
+use Rattle.desk.specs.Take.{TakeGives}
+use Rattle.desk.specs.Open.{OpenGives}
+use Rattle.desk.specs.Abandon.{abandonAnswer}
+use Rattle.desk.specs.End.{endNumber, EndGives}
+
+-- the six calls, with what a caller makes up; header with tables, record and end record are bytes
+pub data Call : Type 0 where
+  makeBook : (rulebook : ℕ) → Call
+  openDay : (log : List ℕ) → Call
+  takeRecord : (row : List ℕ) → Call
+  endDay : (row : List ℕ) → Call
+  abandonDay : Call
+  askBook : (group kind family : ℕ) → Call
+
+-- an answer, of each call's kind
+pub data Reply : Type 0 where
+  made : NewBook → Reply
+  moved : Answer → Reply
+  ended : Ended → Reply
+  told : Asked → Reply
+
+-- the paper's number: the refusal's, or 0 for none
+abbrev pub numberIn : Reply → ℕ
+numberIn (made a) = freshNumber a
+numberIn (moved a) = numberOf a
+numberIn (ended a) = endNumber a
+numberIn (told a) = askNumber a
+
+-- what goes from call to call: the state, the tables lent at the last opening that was accepted, and the buffers
+pub record Desk : Type 0 where
+  pub state : State
+  pub log : List ℕ
+  pub counts : List ℕ
+  pub book : List ℕ
+  pub out : List ℕ
+
+-- the answer of a call, and what it leaves
+pub record Given : Type 0 where
+  pub reply : Reply
+  pub after : Desk
+
+-- a refusal leaves the state, and the tables of the day that is open
+abbrev pub stateAfter : State → Answer → State
+stateAfter old (Done new) = new
+stateAfter old (Refused number) = old
+
+abbrev pub logAfter : List ℕ → List ℕ → Answer → List ℕ
+logAfter old log (Done new) = log
+logAfter old log (Refused number) = old
+
+abbrev pub endState : State → Ended → State
+endState old (EndDone new found) = new
+endState old (EndRefused number) = old
+
+-- what each call may give, by its contract; a buffer that is not lent to it to write is as it was
+pub data Gives (w : Desk) : Call → Given → Type 0 where
+  fresh-gives : {rulebook : ℕ} {a : NewBook} {book : List ℕ} → FreshGives (w .book) rulebook a book
+      → Gives w (makeBook rulebook) (record {
+        reply = made a;
+        after = record { state = w .state; log = w .log; counts = w .counts; book = book; out = w .out };
+      })
+  open-gives : {log : List ℕ} {a : Answer} {counts : List ℕ} → OpenGives (w .state) log (w .book) (w .counts) a counts
+      → Gives w (openDay log) (record {
+        reply = moved a;
+        after = record { state = stateAfter (w .state) a; log = logAfter (w .log) log a; counts = counts; book = w .book; out = w .out };
+      })
+  take-gives : {row : List ℕ} {a : Answer} {counts : List ℕ} → TakeGives (w .state) (w .log) row (w .counts) a counts
+      → Gives w (takeRecord row) (record {
+        reply = moved a;
+        after = record { state = stateAfter (w .state) a; log = w .log; counts = counts; book = w .book; out = w .out };
+      })
+  end-gives : {row : List ℕ} {a : Ended} {book out : List ℕ} → EndGives (w .state) (w .log) row (w .book) (w .counts) (w .out) a book out
+      → Gives w (endDay row) (record {
+        reply = ended a;
+        after = record { state = endState (w .state) a; log = w .log; counts = w .counts; book = book; out = out };
+      })
+  abandon-gives : {a : Answer} → a ≡ abandonAnswer (w .state)
+      → Gives w abandonDay (record {
+        reply = moved a;
+        after = record { state = stateAfter (w .state) a; log = w .log; counts = w .counts; book = w .book; out = w .out };
+      })
+  ask-gives : {group kind family : ℕ} {a : Asked} → a ≡ askAnswer (w .book) group kind family
+      → Gives w (askBook group kind family) (record { reply = told a; after = w })
+
+-- a list of calls, one after the other, each on what the one before left
+pub data Ran : Desk → List Call → List Given → Type 0 where
+  none : {w : Desk} → Ran w [] []
+  next : {w : Desk} {c : Call} {cs : List Call} {g : Given} {gs : List Given} → Gives w c g → Ran (g .after) cs gs
+      → Ran w (c ∷ cs) (g ∷ gs)

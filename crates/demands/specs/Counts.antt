@@ -1,0 +1,34 @@
+-- 01, "What counts", over a day's tables and its records: how often, for whom, on which contract. No cells and no steps.
+use Prim.Native.Nat.{ℕ, _+_}
+use mathlib.Core.Bool.{Bool, _&&_}
+use mathlib.Core.List.{List, [], _∷_}
+use lib.Dec.{eqb}
+use Rattle.wire.specs.Choice.{pick}
+use Rattle.wire.specs.Places.{some}
+use Rattle.rules.specs.Measure.{times, enough, reached}
+use Rattle.daylog.specs.declared.record.Record.{Record}
+use Rattle.daylog.specs.Tables.{Tables}
+use Rattle.desk.specs.Counting.{countsFor}
+use Rattle.desk.specs.Offences.{groupAt, kindAt, familyOf}
+
+-- how many of a list pass the test
+unfoldable pub howMany : {A : Type 0} → (A → Bool) → List A → ℕ
+howMany test [] = 0
+howMany test (x ∷ xs) = pick (test x) 1 0 + howMany test xs
+
+-- how many records count for a group and a kind on the contract at a place: none that is exempt does
+unfoldable pub timesOf : Tables → List Record → (group kind place : ℕ) → ℕ
+timesOf t rs group kind place = howMany (λ r. countsFor t r group kind place) rs
+
+-- the same for each ladder's group and kind
+unfoldable pub timesOn : Tables → List Record → (ladder place : ℕ) → ℕ
+timesOn t rs ladder place = timesOf t rs (groupAt ladder) (kindAt ladder) place
+
+-- the contract at a place is of the family and has at least the number of records: "Reaching the number is enough."
+unfoldable pub reachesOn : Tables → List Record → (group kind family place : ℕ) → Bool
+reachesOn t rs group kind family place =
+    eqb (familyOf t place) family && reached (times (timesOf t rs group kind place)) (enough (t .rulebook) kind)
+
+-- 01, "Ladders": "A group has one offence of a kind in a family on a day if any contract of the family reaches the number."
+unfoldable pub offence : Tables → List Record → (group kind family : ℕ) → Bool
+offence t rs group kind family = some (reachesOn t rs group kind family) (t .contracts)

@@ -1,0 +1,113 @@
+-- The same calls by the rules alone: an open day is the list of the records that it took. No cells.
+use Prim.Native.Nat.{ℕ, _+_, _*_}
+use mathlib.Core.Bool.{not}
+use mathlib.Core.List.{List, [], _∷_}
+use lib.Dec.{leb, ltb, eqb}
+use lib.ListN.{length}
+use Rattle.wire.specs.Choice.{pick, orElse}
+use Rattle.wire.specs.Buffers.{put}
+use Rattle.book.specs.Fresh.{freshAnswer, freshBook}
+use Rattle.book.specs.Ask.{askAnswer}
+use Rattle.daylog.specs.declared.record.Record.{Record}
+use Rattle.daylog.specs.Header.{headerOf}
+use Rattle.daylog.specs.Records.{recordOf}
+use Rattle.daylog.specs.Tables.{tablesOf}
+use Rattle.desk.specs.declared.state.Day.{Day}
+use Rattle.desk.specs.declared.state.State.{State}
+use Rattle.desk.specs.declared.state.State.the-variants.{Closed, Open}
+use Rattle.desk.specs.declared.state.Answer.{Answer}
+use Rattle.desk.specs.declared.end.Ended.{Ended}
+use Rattle.desk.specs.declared.end.Ended.the-variants.{Done, Refused}
+use Rattle.desk.specs.Answers.{answered}
+use Rattle.desk.specs.Judging.{tableFault}
+use Rattle.desk.specs.Open.{bookFault, handedFault}
+use Rattle.desk.specs.Findings.{findings, bookAfter, foundCount}
+use Rattle.desk.specs.End.{rowFault}
+use Rattle.demands.specs.Counts.{timesOn}
+use Rattle.demands.specs.Calls.{Call, makeBook, openDay, takeRecord, endDay, abandonDay, askBook, Reply, made, moved, ended, told}
+
+-- no day is open, or one is, with its tables as bytes and the records that it took, the latest first
+pub data Course : Type 0 where
+  idle : Course
+  during : (log : List ℕ) → (records : List Record) → Course
+
+-- the day's course, the book, the findings buffer, and how many counts are lent
+pub record Paper : Type 0 where
+  pub course : Course
+  pub book : List ℕ
+  pub out : List ℕ
+  pub room : ℕ
+
+-- the answer to a call, and what it leaves
+pub record Ruled : Type 0 where
+  pub reply : Reply
+  pub after : Paper
+
+-- the open day as a state
+abbrev pub dayIn : List ℕ → List Record → Day
+dayIn log rs = record { head = headerOf log; taken = length rs }
+
+-- ---- the refusals. "Take: 10, 1, .. 11, 12, 13, 14": of its own doing, 16 and 19 never come
+unfoldable pub takeNumber : List ℕ → List Record → List ℕ → ℕ
+takeNumber log rs row =
+    pick (not (eqb (length row) 20)) 1
+    (orElse (tableFault (tablesOf log) (recordOf row)) (pick (leb 1000000 (length rs)) 14 0))
+
+-- "End: 10, 1, .. 11, 15, 17, 18, 9, .. 20"
+unfoldable pub endRefusal : List ℕ → List Record → (row book : List ℕ) → ℕ → ℕ
+endRefusal log rs row book room =
+    pick (not (eqb (length row) 20)) 1
+    (orElse (rowFault (dayIn log rs) row)
+    (orElse (bookFault (headerOf log) book)
+    (pick (ltb room (8 * foundCount (tablesOf log) (timesOn (tablesOf log) rs))) 20
+    0)))
+
+-- ---- what is left where the number is 0, and where it is not
+abbrev pub resting : Paper → (book out : List ℕ) → Paper
+resting p book out = record { course = idle; book = book; out = out; room = p .room }
+
+abbrev pub at : Paper → Course → Paper
+at p course = record { course = course; book = p .book; out = p .out; room = p .room }
+
+unfoldable pub openRuled : Paper → List ℕ → ℕ → Ruled
+openRuled p log fault =
+    record { reply = moved (answered fault (Open (dayIn log []))); after = pick (eqb fault 0) (at p (during log [])) p }
+
+unfoldable pub takeRuled : Paper → List ℕ → List Record → List ℕ → ℕ → Ruled
+takeRuled p log rs row fault = record {
+  reply = moved (answered fault (Open (record { head = headerOf log; taken = length rs + 1 })));
+  after = pick (eqb fault 0) (at p (during log (recordOf row ∷ rs))) p;
+}
+
+-- "Ending writes the book (totals, last date), closes the day .. and writes findings from the buffer's start"
+unfoldable pub endRuled : Paper → List ℕ → List Record → ℕ → Ruled
+endRuled p log rs fault =
+    let t = tablesOf log in
+    let date = headerOf log .date in
+    let counted = timesOn t rs in record {
+      reply = ended (pick (eqb fault 0) (Done Closed (foundCount t counted)) (Refused fault));
+      after = pick (eqb fault 0) (resting p (bookAfter t date (p .book) counted) (put (p .out) 0 (findings t date (p .book) counted))) p;
+    }
+
+-- "10: a day is open for open; none is for take, end, abandon"
+abbrev pub no10 : Paper → Ruled
+no10 p = record { reply = moved (answered 10 Closed); after = p }
+
+-- ---- each call
+unfoldable pub rule : Paper → Course → Call → Ruled
+rule p course (makeBook rulebook) =
+    record { reply = made (freshAnswer (p .book) rulebook); after = record { course = p .course; book = freshBook (p .book) rulebook; out = p .out; room = p .room } }
+rule p course (askBook group kind family) = record { reply = told (askAnswer (p .book) group kind family); after = p }
+rule p idle (openDay log) = openRuled p log (handedFault log (p .book) (p .room))
+rule p idle (takeRecord row) = no10 p
+rule p idle (endDay row) = record { reply = ended (Refused 10); after = p }
+rule p idle abandonDay = no10 p
+rule p (during log rs) (openDay other) = no10 p
+rule p (during log rs) (takeRecord row) = takeRuled p log rs row (takeNumber log rs row)
+rule p (during log rs) (endDay row) = endRuled p log rs (endRefusal log rs row (p .book) (length (p .out)))
+rule p (during log rs) abandonDay = record { reply = moved (answered 0 Closed); after = at p idle }
+
+-- a list of calls
+unfoldable pub rules : Paper → List Call → List Ruled
+rules p [] = []
+rules p (c ∷ cs) = rule p (p .course) c ∷ rules (rule p (p .course) c .after) cs

@@ -1,52 +1,54 @@
-// Runs document 01's cases and slips on the library's own functions, and prints each with what came out.
-use libc::STDOUT_FILENO;
-use rules::measure::Lots;
+// Runs document 01's cases and slips on the library's own functions and calls, and prints each with what came out. The
+// file `stdout` says what the document says.
+mod build;
+mod dates;
+mod day;
+mod example;
+mod families;
+mod say;
+mod times;
+mod year;
+mod zero;
 
-fn say(name: &[u8], answer: bool) {
-    io::write_all(STDOUT_FILENO, name);
-    if answer {
-        io::write_all(STDOUT_FILENO, b": yes\n");
-    } else {
-        io::write_all(STDOUT_FILENO, b": no\n");
-    }
-}
-
-fn say_number(name: &[u8], answer: u8) {
-    io::write_all(STDOUT_FILENO, name);
-    io::write_all(STDOUT_FILENO, b": ");
-    io::print_decimal(STDOUT_FILENO, answer as u64);
-    io::write_all(STDOUT_FILENO, b"\n");
-}
-
-fn dates() {
-    say(b"20000229 is a date", calendar::is_day(20000229));
-    say(b"20991231 is a date", calendar::is_day(20991231));
-    say(b"19991231 is a date", calendar::is_day(19991231));
-    say(b"21000101 is a date", calendar::is_day(21000101));
-}
-
-fn slips() {
-    say(
-        b"rulebook 2, 7 lots of 9 is large",
-        rules::measure::is_large(2, Lots(7), Lots(9)),
-    );
-    say(
+fn leaves() {
+    dates::tested();
+    say::truth(
         b"rulebook 2, plain limit, ordinary is exempt for kind 2",
         rules::exemption::is_exempt(2, 1, 2, 1, 1),
     );
-    say(
+    say::truth(
         b"rulebook 2, plain limit, ordinary is exempt for kind 3",
         rules::exemption::is_exempt(2, 1, 3, 1, 1),
     );
+    say::number(
+        b"family of DCE futures",
+        rules::ladder::family_of(1, 1, 0) as u64,
+    );
+    say::number(
+        b"family of DCE options",
+        rules::ladder::family_of(1, 2, 0) as u64,
+    );
 }
 
-fn families() {
-    say_number(b"family of DCE futures", rules::ladder::family_of(1, 1, 0));
-    say_number(b"family of DCE options", rules::ladder::family_of(1, 2, 0));
+fn calls(book: &mut [u8; 12304], counts: &mut [u32; 12288], findings: &mut [u8; 49152]) {
+    dates::through_open(book, counts);
+    times::enough(book, counts, findings);
+    times::wide_count(book, counts);
+    times::on_two_contracts(book, counts, findings);
+    times::large_bonds(book, counts, findings);
+    times::large(book, counts, findings);
+    times::exempt_for_one(book, counts, findings);
+    families::futures_and_options(book, counts, findings);
+    families::one_offence_a_day(book, counts, findings);
+    year::next_year(book, counts, findings);
+    zero::account(book, counts);
+    example::clerk(book, counts, findings);
 }
 
 fn main() {
-    dates();
-    slips();
-    families();
+    let mut book = [0u8; 12304];
+    let mut counts = [0u32; 12288];
+    let mut findings = [0u8; 49152];
+    leaves();
+    calls(&mut book, &mut counts, &mut findings);
 }

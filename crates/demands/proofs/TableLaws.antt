@@ -1,0 +1,76 @@
+-- What is known of the tables in a log without fault: few contracts, groups in range; and of a record that they have. Assumes nothing.
+use mathlib.Core.Path.{_≡_, refl, sym, ap, _∙_}
+use mathlib.Core.Bool.{Bool, true, false, not, _&&_}
+use mathlib.Core.List.{List}
+use Prim.Native.Nat.{ℕ, _+_, _*_, _/_, _≤_, _<_}
+use native.Mathlib.Omega.{arith}
+use borrow.Author.Tests.{ltb-true, lt-ltb, not-false}
+use lib.Dec.{leb, ltb, eqb, lit<}
+use lib.ListN.{length, drop, length-take}
+use Rattle.wire.specs.Choice.{pick, within}
+use Rattle.wire.proofs.ChoiceLaws.{pick-yes, pick-zero, and-left, and-right, bounds}
+use Rattle.wire.proofs.PlaceLaws.{every-at}
+use Rattle.daylog.specs.declared.record.Record.{Record}
+use Rattle.daylog.specs.Accounts.{accountAt, numberBefore, accountGoodAt, accountsGood}
+use Rattle.daylog.specs.Header.{headerOf, contractsPart, accountsPart, logFault}
+use Rattle.daylog.specs.Entries.{entries}
+use Rattle.daylog.specs.Sound.{Sound}
+use Rattle.daylog.specs.Tables.{Tables, tablesIn, tablesOf}
+use Rattle.daylog.proofs.FaultLaws.{log-sound}
+use Rattle.desk.specs.Counting.{accountOf, contractOf, hasAccount, hasContract, groupOf, planFor, planOf}
+use Rattle.desk.specs.Judging.{tableFault}
+use Rattle.demands.proofs.CountLaws.{In}
+
+pub record Known (t : Tables) : Type 0 where
+  pub few : t .contracts ≤ 32
+  pub first-group : (k : ℕ) → k < t .accounts → 1 ≤ t .account k .group
+  pub last-group : (k : ℕ) → k < t .accounts → t .account k .group ≤ 128
+
+group-at : (s : List ℕ) → accountsGood s ≡ true → (k : ℕ) → k < entries s → (1 ≤ accountAt s k .group) × (accountAt s k .group ≤ 128)
+unfolding accountsGood
+group-at s e k h =
+    let rises = ltb (numberBefore s k) (accountAt s k .number) in
+    let group = within 1 128 (accountAt s k .group) in
+    let kind = within 1 2 (accountAt s k .kind) in
+    let spare = eqb (accountAt s k .spare) 0 in
+    let good : rises && group && kind && spare ≡ true = every-at (accountGoodAt s) (entries s) k e h in
+    bounds 1 128 (accountAt s k .group) (and-right rises group (and-left (rises && group) kind (and-left (rises && group && kind) spare good)))
+
+pub known-tables : (log : List ℕ) → logFault log ≡ 0 → Known (tablesOf log)
+unfolding tablesOf tablesIn
+known-tables log e =
+    let s = log-sound log e in
+    let h = headerOf log in record {
+      few = omega (arith, s .most-contracts, length-take (8 * h .contracts) (drop 16 log));
+      first-group = λ k l. group-at (accountsPart h log) (s .accounts) k l .0;
+      last-group = λ k l. group-at (accountsPart h log) (s .accounts) k l .1;
+    }
+
+-- ---- a record that the tables have
+pub record Has (t : Tables) (r : Record) : Type 0 where
+  pub contract : contractOf t (r .contract) < t .contracts
+  pub account : accountOf t (r .first) < t .accounts
+
+pub has-record : (t : Tables) (r : Record) → tableFault t r ≡ 0 → Has t r
+unfolding tableFault hasContract hasAccount
+has-record t r e =
+    let e1 = pick-zero _ 11 _ (lit< tt) e in
+    let e2 = pick-zero _ 12 _ (lit< tt) (e1 .1) in
+    let e3 = pick-zero _ 13 _ (lit< tt) (e2 .1) in
+    record { contract = ltb-true _ _ (not-false _ (e2 .0)); account = ltb-true _ _ (not-false _ (e3 .0)) }
+
+pub group-is : (t : Tables) (number : ℕ) → accountOf t number < t .accounts → groupOf t number ≡ t .account (accountOf t number) .group
+unfolding groupOf hasAccount
+group-is t number h = sym (pick-yes _ _ _ _ (lt-ltb (accountOf t number) (t .accounts) h) refl)
+
+-- its group and its contract's place have cells
+pub placed : (t : Tables) → Known t → (r : Record) → Has t r → (k : ℕ) → 1 ≤ k → k ≤ 3 → In (planOf t r .group) k (planOf t r .place)
+unfolding planOf planFor
+placed t o r h k low high =
+    let g = group-is t (r .first) (h .account) in record {
+      first-group = omega (arith, o .first-group (accountOf t (r .first)) (h .account));
+      last-group = omega (arith, o .last-group (accountOf t (r .first)) (h .account));
+      first-kind = low;
+      last-kind = high;
+      last-place = omega (arith, o .few, h .contract);
+    }

@@ -1,1 +1,6 @@
+pub mod CountLaws
+pub mod TableLaws
+pub mod DayLaws
+pub mod CallLaws
+pub mod ListedLaws
 pub mod Starred

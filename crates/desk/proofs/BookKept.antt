@@ -100,7 +100,7 @@ module _ (t : Tables) (date : ℕ) (book : List ℕ) (counted : ℕ → ℕ → 
       go false e =
           omega (arith, carried l h, pick-le (offendsOn t counted l) 1 0 1 (omega arith) (omega arith), most-day (t .rulebook) (dayNumber date) l e)
 
-  after-is : (l : ℕ) → l < 6144 → totalAfter t date book counted l ≡ summed l
+  pub after-is : (l : ℕ) → l < 6144 → totalAfter t date book counted l ≡ summed l
   unfolding totalAfter raised
   after-is l h = omega (arith, summed-most l h, most-le (t .rulebook) (dayNumber date) l, number-most date)
 
@@ -125,7 +125,7 @@ record Ending (day : Day) (log book : List ℕ) : Type 0 where
   date : realDay (day .head .date) ≡ true
   later : lastDate book < day .head .date
 
-tables-rulebook : (log : List ℕ) → tablesOf log .rulebook ≡ headerOf log .rulebook
+pub tables-rulebook : (log : List ℕ) → tablesOf log .rulebook ≡ headerOf log .rulebook
 unfolding tablesOf tablesIn
 tables-rulebook log = refl
 

@@ -1,0 +1,53 @@
+-- Demand 3, its words: "in every day's table give all accounts of group a the number of group b .., as a change of bytes in the
+-- lent tables and of nothing else".
+use mathlib.Core.Path.{_≡_}
+use mathlib.Core.Bool.{Bool, _&&_, _||_, not}
+use mathlib.Core.List.{List, [], _∷_}
+use Prim.Native.Nat.{ℕ, suc, _+_, _-_, _*_, _%_}
+use lib.Dec.{leb, eqb}
+use Rattle.wire.specs.Choice.{pick}
+use Rattle.daylog.specs.declared.header.Header.{Header}
+use Rattle.daylog.specs.declared.record.Record.{Record}
+use Rattle.daylog.specs.Header.{headerOf}
+use Rattle.daylog.specs.Tables.{Tables}
+use Rattle.desk.specs.Counting.{contractOf, groupOf, exempt1, exempt2}
+use Rattle.demands.specs.Counts.{howMany}
+
+-- ---- the change of bytes
+-- the number of a group after the join
+abbrev pub joined : (a b group : ℕ) → ℕ
+joined a b group = pick (eqb group a) b group
+
+-- the byte at a place of a log is the group of an account entry: the fifth of its 8 bytes
+abbrev pub groupByte : Header → ℕ → Bool
+groupByte h i = leb (16 + 8 * h .contracts) i && eqb ((i - (16 + 8 * h .contracts)) % 8) 4
+
+-- every byte by its place, which is counted from i on
+unfoldable pub byPlace : (ℕ → ℕ → ℕ) → ℕ → List ℕ → List ℕ
+byPlace f i [] = []
+byPlace f i (x ∷ xs) = f i x ∷ byPlace f (suc i) xs
+
+unfoldable pub joinLog : (a b : ℕ) → List ℕ → List ℕ
+joinLog a b log = byPlace (λ i x. pick (groupByte (headerOf log) i) (joined a b x) x) 0 log
+
+-- ---- what it is for the tables: the groups of accounts change and nothing else does
+pub record Joined (a b : ℕ) (t t′ : Tables) : Type 0 where
+  pub rulebook : t′ .rulebook ≡ t .rulebook
+  pub contracts : t′ .contracts ≡ t .contracts
+  pub contract : (k : ℕ) → t′ .contract k ≡ t .contract k
+  pub accounts : t′ .accounts ≡ t .accounts
+  pub number : (k : ℕ) → t′ .account k .number ≡ t .account k .number
+  pub kind : (k : ℕ) → t′ .account k .kind ≡ t .account k .kind
+  pub group : (k : ℕ) → t′ .account k .group ≡ joined a b (t .account k .group)
+
+-- ---- "the trades between a and b that are not exempt"
+unfoldable pub betweenFor : Tables → Record → (a b place : ℕ) → Bool
+betweenFor t r a b place =
+    let e = t .contract (contractOf t (r .contract)) in
+    let one = groupOf t (r .first) in
+    let two = groupOf t (r .second) in
+    eqb (r .sort) 1 && not (exempt1 (t .rulebook) e r 1) && not (exempt2 (t .rulebook) e r 1)
+    && ((eqb one a && eqb two b) || (eqb one b && eqb two a)) && eqb (contractOf t (r .contract)) place
+
+unfoldable pub between : Tables → List Record → (a b place : ℕ) → ℕ
+between t rs a b place = howMany (λ r. betweenFor t r a b place) rs

@@ -3,4 +3,8 @@ pub mod TableLaws
 pub mod DayLaws
 pub mod CallLaws
 pub mod ListedLaws
+pub mod TotalLaws
+pub mod NumberLaws
+pub mod Demand2
+pub mod JoinTables
 pub mod Starred

@@ -14,7 +14,7 @@ use Rattle.desk.specs.Answers.{numberOf, answered, Moves}
 use Rattle.desk.specs.End.{endNumber, Ends}
 
 -- an answer chosen by a fault, whose two cases have the numbers 0 and the fault
-number-of : {A : Type 0} (number : A → ℕ) (fault : ℕ) (yes′ no′ : A) → number yes′ ≡ 0 → number no′ ≡ fault
+pub number-of : {A : Type 0} (number : A → ℕ) (fault : ℕ) (yes′ no′ : A) → number yes′ ≡ 0 → number no′ ≡ fault
     → number (pick (eqb fault 0) yes′ no′) ≡ fault
 number-of number fault yes′ no′ y n = go (eqb fault 0) refl
   where

@@ -1,0 +1,254 @@
+//! The six calls (document 01, "The calls and their refusals"), on plain data. A refusal changes nothing: each call
+//! makes all its tests first, in the document's order, and then writes.
+use crate::book;
+use crate::dates;
+use crate::refusal::Refusal;
+use crate::rules::{self, FAMILIES, GROUPS, KINDS, PLACES};
+use crate::tables::{self, Contract, Header, Record, Tables, RECORD};
+
+pub const CELLS: usize = GROUPS * KINDS * PLACES;
+pub const FINDING: usize = 8;
+pub const MOST_RECORDS: u32 = 1_000_000;
+
+#[derive(Clone, Copy)]
+pub struct Day {
+    pub header: Header,
+    pub taken: u32,
+}
+
+#[derive(Clone, Copy)]
+pub enum State {
+    Closed,
+    Open(Day),
+}
+
+pub fn fresh(rulebook: u64, book: &mut [u8]) -> Result<(), Refusal> {
+    if rulebook != 1 && rulebook != 2 {
+        return Err(Refusal::Rulebook);
+    }
+    if book.len() != book::LENGTH {
+        return Err(Refusal::Book);
+    }
+    book::make_fresh(book, rulebook as u8);
+    Ok(())
+}
+
+pub fn open(state: &mut State, tables: &[u8], book: &[u8], counts: &mut [u32]) -> Result<(), Refusal> {
+    if let State::Open(_) = state {
+        return Err(Refusal::DayState);
+    }
+    let header = tables::check(tables)?;
+    check_book(book, &header)?;
+    if counts.len() < CELLS {
+        return Err(Refusal::Counts);
+    }
+    counts[..CELLS].fill(0);
+    *state = State::Open(Day { header, taken: 0 });
+    Ok(())
+}
+
+/// 17, 18, 9: at opening and again at the end.
+fn check_book(book: &[u8], header: &Header) -> Result<(), Refusal> {
+    if !book::is_sound(book) {
+        return Err(Refusal::Book);
+    }
+    if book::rulebook(book) != header.rulebook {
+        return Err(Refusal::OtherRulebook);
+    }
+    if header.date <= book::last_date(book) {
+        return Err(Refusal::NotLater);
+    }
+    Ok(())
+}
+
+/// 10, 1, 16, 19 (tables): how take and end begin.
+fn check_start<'a>(
+    state: &State,
+    tables: &'a [u8],
+    record: &[u8],
+    counts: &[u32],
+) -> Result<(Day, Tables<'a>), Refusal> {
+    let State::Open(day) = *state else {
+        return Err(Refusal::DayState);
+    };
+    if record.len() != RECORD {
+        return Err(Refusal::Length);
+    }
+    if counts.len() < CELLS {
+        return Err(Refusal::Counts);
+    }
+    match tables::check(tables) {
+        Ok(header) if header == day.header => Ok((day, Tables::read(tables, header))),
+        _ => Err(Refusal::TablesChanged),
+    }
+}
+
+fn cell(group: usize, kind: usize, place: usize) -> usize {
+    ((group - 1) * KINDS + (kind - 1)) * PLACES + place
+}
+
+pub fn take(state: &mut State, tables: &[u8], record: &[u8], counts: &mut [u32]) -> Result<(), Refusal> {
+    let (day, tables) = check_start(state, tables, record, counts)?;
+    let record = tables::record(record, day.header.rulebook).ok_or(Refusal::Record)?;
+    let contract = tables.contract(record.contract).ok_or(Refusal::NoContract)?;
+    let raised = cells_raised(&tables, &record, contract)?;
+    if day.taken >= MOST_RECORDS {
+        return Err(Refusal::Full);
+    }
+    if raised.iter().flatten().any(|&cell| counts[cell] > day.taken) {
+        return Err(Refusal::CellsChanged);
+    }
+    for &cell in raised.iter().flatten() {
+        counts[cell] += 1;
+    }
+    *state = State::Open(Day { taken: day.taken + 1, ..day });
+    Ok(())
+}
+
+/// The cells that the record counts in: at most two, for a cancel of kinds 2 and 3.
+fn cells_raised(tables: &Tables, record: &Record, contract: Contract) -> Result<[Option<usize>; 2], Refusal> {
+    let rulebook = tables.header.rulebook;
+    let first = tables.account(record.first).ok_or(Refusal::NoAccount)?;
+    let counts_for = |kind, order: usize| {
+        let (instruction, purpose) = record.orders[order];
+        !rules::is_exempt(rulebook, kind, instruction, purpose)
+    };
+    let at = |kind| cell(first.group as usize, kind, contract.place);
+    if record.is_trade {
+        let second = tables.account(record.second).ok_or(Refusal::NoAccount)?;
+        let is_self_trade = first.group == second.group && counts_for(1, 0) && counts_for(1, 1);
+        return Ok([is_self_trade.then(|| at(1)), None]);
+    }
+    let is_large = rules::is_large(rulebook, record.lots, contract.largest);
+    Ok([counts_for(2, 0).then(|| at(2)), (is_large && counts_for(3, 0)).then(|| at(3))])
+}
+
+pub struct Finding {
+    pub group: u8,
+    pub kind: u8,
+    pub family: u8,
+    pub sanction: u8,
+    pub total: u16,
+    pub contract: u16,
+}
+
+impl Finding {
+    pub fn bytes(&self) -> [u8; FINDING] {
+        let ([t0, t1], [c0, c1]) = (self.total.to_le_bytes(), self.contract.to_le_bytes());
+        [self.group, self.kind, self.family, self.sanction, t0, t1, c0, c1]
+    }
+
+    pub fn read(bytes: &[u8]) -> Finding {
+        let [group, kind, family, sanction] = [bytes[0], bytes[1], bytes[2], bytes[3]];
+        Finding { group, kind, family, sanction, total: tables::read16(bytes, 4), contract: tables::read16(bytes, 6) }
+    }
+}
+
+pub fn end(
+    state: &mut State,
+    tables: &[u8],
+    record: &[u8],
+    book: &mut [u8],
+    counts: &[u32],
+    findings: &mut [u8],
+) -> Result<usize, Refusal> {
+    let (day, tables) = check_start(state, tables, record, counts)?;
+    let number = tables::end_number(record).ok_or(Refusal::Record)?;
+    if number != day.taken {
+        return Err(Refusal::EndNumber);
+    }
+    check_book(book, &day.header)?;
+    if counts[..CELLS].iter().any(|&count| count > day.taken) {
+        return Err(Refusal::CellsChanged);
+    }
+    let found = judge(&tables, counts, book);
+    if findings.len() < found.len() * FINDING {
+        return Err(Refusal::Findings);
+    }
+    for (finding, room) in found.iter().zip(findings.chunks_exact_mut(FINDING)) {
+        room.copy_from_slice(&finding.bytes());
+    }
+    write_book(book, day.header.date, &found);
+    *state = State::Closed;
+    Ok(found.len())
+}
+
+fn is_later_year(date: u32, book: &[u8]) -> bool {
+    dates::year(date) > dates::year(book::last_date(book))
+}
+
+fn write_book(book: &mut [u8], date: u32, found: &[Finding]) {
+    if is_later_year(date, book) {
+        book::clear_totals(book);
+    }
+    for finding in found {
+        book::set_total(book, finding.group as usize, finding.kind as usize, finding.family as usize, finding.total);
+    }
+    book::set_last_date(book, date);
+}
+
+/// The day's offences, each with the total that it brings its ladder to.
+fn judge(tables: &Tables, counts: &[u32], book: &[u8]) -> Vec<Finding> {
+    let rulebook = tables.header.rulebook;
+    let contracts: Vec<Contract> = tables.contracts().collect();
+    let has_member = groups_with_member(tables);
+    let starts_again = is_later_year(tables.header.date, book);
+    let mut found = Vec::new();
+    for (group, kind) in book::groups_and_kinds() {
+        let lowest = lowest_reached(rulebook, &contracts, counts, group, kind);
+        for (family, contract) in lowest.iter().enumerate() {
+            let Some(contract) = *contract else { continue };
+            let before = if starts_again { 0 } else { book::total(book, group, kind, family) };
+            let total = before + 1;
+            let sanction = rules::sanction(rulebook, has_member[group], rules::rung(total));
+            let (group, kind, family) = (group as u8, kind as u8, family as u8);
+            found.push(Finding { group, kind, family, sanction, total, contract });
+        }
+    }
+    found
+}
+
+fn groups_with_member(tables: &Tables) -> [bool; GROUPS + 1] {
+    let mut has_member = [false; GROUPS + 1];
+    for account in tables.accounts() {
+        has_member[account.group as usize] |= account.is_member;
+    }
+    has_member
+}
+
+/// For each family the lowest contract id that reached the number: contracts rise, so it is the first.
+fn lowest_reached(
+    rulebook: u8,
+    contracts: &[Contract],
+    counts: &[u32],
+    group: usize,
+    kind: usize,
+) -> [Option<u16>; FAMILIES] {
+    let mut lowest = [None; FAMILIES];
+    for contract in contracts {
+        if counts[cell(group, kind, contract.place)] >= rules::enough(rulebook, kind) {
+            lowest[rules::family(rulebook, contract.contract_type, contract.product)].get_or_insert(contract.id);
+        }
+    }
+    lowest
+}
+
+pub fn abandon(state: &mut State) -> Result<(), Refusal> {
+    if let State::Closed = state {
+        return Err(Refusal::DayState);
+    }
+    *state = State::Closed;
+    Ok(())
+}
+
+/// The total and its rung.
+pub fn ask(book: &[u8], group: u64, kind: u64, family: u64) -> Result<(u16, u8), Refusal> {
+    if !book::is_sound(book) {
+        return Err(Refusal::Book);
+    }
+    if !(1..=128).contains(&group) || !(1..=3).contains(&kind) || family > 15 {
+        return Err(Refusal::Asked);
+    }
+    let total = book::total(book, group as usize, kind as usize, family as usize);
+    Ok((total, rules::rung(total)))
+}

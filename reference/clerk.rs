@@ -1,0 +1,159 @@
+//! The clerk's program (document 01): as a function from bytes, and as a program over the file and standard input.
+use crate::book;
+use crate::calls::{self, Finding, State, CELLS, FINDING};
+use crate::refusal::Refusal;
+use crate::tables::{Header, HEADER, RECORD};
+use std::fmt::Write as _;
+use std::fs::{self, File};
+use std::io::{self, Read, Write};
+
+/// Where a log stopped. A log can be refused with 1 by the clerk alone: cut off, or with bytes after its end.
+#[derive(Clone, Copy, PartialEq, Eq, PartialOrd, Ord, Debug)]
+pub enum Stop {
+    Call(&'static str, Refusal),
+    CutRecord,
+    NoEnd,
+    AfterEnd,
+}
+
+impl Stop {
+    fn number(self) -> u8 {
+        match self {
+            Stop::Call(_, refusal) => refusal.number(),
+            Stop::CutRecord | Stop::NoEnd | Stop::AfterEnd => 1,
+        }
+    }
+}
+
+pub struct Outcome {
+    pub text: String,
+    /// The book to write back; none where the log was refused.
+    pub book: Option<Vec<u8>>,
+    pub stop: Option<Stop>,
+}
+
+/// The log in pieces: bytes are asked of the source only when those at hand do not do.
+struct Reader<R> {
+    source: R,
+    buffer: Vec<u8>,
+    start: usize,
+    end: usize,
+}
+
+const PIECE: usize = 1 << 16;
+
+impl<R: Read> Reader<R> {
+    fn new(source: R) -> Reader<R> {
+        Reader { source, buffer: vec![0; PIECE], start: 0, end: 0 }
+    }
+
+    /// The next n bytes, or what there is of them at the end of the log; n is at most a piece.
+    fn next(&mut self, n: usize) -> io::Result<&[u8]> {
+        if self.end - self.start < n {
+            self.fill(n)?;
+        }
+        let from = self.start;
+        self.start = self.end.min(from + n);
+        Ok(&self.buffer[from..self.start])
+    }
+
+    fn fill(&mut self, n: usize) -> io::Result<()> {
+        self.buffer.copy_within(self.start..self.end, 0);
+        self.end -= self.start;
+        self.start = 0;
+        while self.end < n {
+            match self.source.read(&mut self.buffer[self.end..]) {
+                Ok(0) => return Ok(()),
+                Ok(more) => self.end += more,
+                Err(error) if error.kind() == io::ErrorKind::Interrupted => {}
+                Err(error) => return Err(error),
+            }
+        }
+        Ok(())
+    }
+}
+
+/// The header with its tables, or what there is of them. A header that opening refuses needs no tables.
+fn read_tables<R: Read>(log: &mut Reader<R>) -> io::Result<Vec<u8>> {
+    let mut tables = log.next(HEADER)?.to_vec();
+    if tables.len() == HEADER {
+        let header = Header::read(&tables);
+        if header.contracts <= 32 && header.accounts <= 512 {
+            tables.extend_from_slice(log.next(header.length() - HEADER)?);
+        }
+    }
+    Ok(tables)
+}
+
+/// The day's findings, or where it stopped. The book is a copy: it becomes the file's only at the end.
+fn judge<R: Read>(book: &mut [u8], source: R) -> io::Result<Result<(Header, Vec<Finding>), Stop>> {
+    let mut log = Reader::new(source);
+    let mut counts = vec![0; CELLS];
+    let mut findings = vec![0; CELLS / 2 * FINDING];
+    let mut state = State::Closed;
+    let tables = read_tables(&mut log)?;
+    if let Err(refusal) = calls::open(&mut state, &tables, book, &mut counts) {
+        return Ok(Err(Stop::Call("open", refusal)));
+    }
+    loop {
+        let record = log.next(RECORD)?;
+        if record.len() < RECORD {
+            return Ok(Err(if record.is_empty() { Stop::NoEnd } else { Stop::CutRecord }));
+        }
+        if record[0] == 3 {
+            break match calls::end(&mut state, &tables, record, book, &counts, &mut findings) {
+                Err(refusal) => Ok(Err(Stop::Call("end", refusal))),
+                Ok(_) if !log.next(1)?.is_empty() => Ok(Err(Stop::AfterEnd)),
+                Ok(n) => Ok(Ok((Header::read(&tables), findings.chunks(FINDING).take(n).map(Finding::read).collect()))),
+            };
+        }
+        if let Err(refusal) = calls::take(&mut state, &tables, record, &mut counts) {
+            return Ok(Err(Stop::Call("take", refusal)));
+        }
+    }
+}
+
+fn printed(header: &Header, findings: &[Finding]) -> String {
+    let mut text = String::new();
+    let exchange = if header.rulebook == 1 { "DCE" } else { "CFX" };
+    writeln!(text, "AXD {} {exchange}", header.date).unwrap();
+    for Finding { group, kind, family, sanction, total, contract } in findings {
+        writeln!(text, "{group} {kind} {family} {total} {sanction} {contract}").unwrap();
+    }
+    writeln!(text, "findings {}", findings.len()).unwrap();
+    text
+}
+
+/// The clerk over a log that is read as it comes. A book that can't be opened is one of no bytes.
+pub fn clerk<R: Read>(book: Option<&[u8]>, log: R) -> io::Result<Outcome> {
+    let mut copy = book.unwrap_or(&[]).to_vec();
+    Ok(match judge(&mut copy, log)? {
+        Ok((header, findings)) => Outcome { text: printed(&header, &findings), book: Some(copy), stop: None },
+        Err(stop) => Outcome { text: format!("refused {}\n", stop.number()), book: None, stop: Some(stop) },
+    })
+}
+
+/// The program: prints, then writes the book back beside the old one and renames it over.
+pub fn program() -> io::Result<()> {
+    let outcome = clerk(read_book().as_deref(), io::stdin().lock())?;
+    io::stdout().write_all(outcome.text.as_bytes())?;
+    io::stdout().flush()?;
+    match outcome.book {
+        Some(book) => write_back(&book).inspect_err(|_| drop(fs::remove_file("book.axb.new"))),
+        None => Ok(()),
+    }
+}
+
+/// One byte more than a book's is enough to see that a file is too long.
+fn read_book() -> Option<Vec<u8>> {
+    let mut bytes = Vec::with_capacity(book::LENGTH + 1);
+    File::open("book.axb").ok()?.take(book::LENGTH as u64 + 1).read_to_end(&mut bytes).ok()?;
+    Some(bytes)
+}
+
+fn write_back(book: &[u8]) -> io::Result<()> {
+    let mut file = File::create("book.axb.new")?;
+    file.write_all(book)?;
+    file.sync_all()?;
+    fs::rename("book.axb.new", "book.axb")
+}

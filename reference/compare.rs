@@ -1,0 +1,218 @@
+//! Runs cases on the reference and on the programs, and compares.
+use crate::cases::{BookFile, Case, Feed, Input};
+use crate::clerk::{self, Stop};
+use crate::replay;
+use crate::run::{command, run, Programs};
+use crate::tally::Tally;
+use std::fs;
+use std::io;
+use std::path::Path;
+use std::sync::atomic::{AtomicUsize, Ordering};
+use std::sync::Mutex;
+
+pub struct Difference {
+    pub case: usize,
+    pub name: String,
+    pub what: String,
+}
+
+pub struct Bench<'a> {
+    pub programs: &'a Programs,
+    /// Scratch folders and differing cases go here.
+    pub folder: &'a Path,
+    pub label: &'a str,
+}
+
+/// All cases, on as many threads as there are processors, each in a folder of its own.
+pub fn compare_all(bench: &Bench, cases: &[Case]) -> (Tally, Vec<Difference>) {
+    let next = AtomicUsize::new(0);
+    let shared = Mutex::new((Tally::default(), Vec::new()));
+    let threads = std::thread::available_parallelism().map_or(1, |n| n.get());
+    std::thread::scope(|scope| {
+        for thread in 0..threads {
+            let (next, shared) = (&next, &shared);
+            scope.spawn(move || {
+                let scratch = bench.folder.join(format!("scratch-{thread}"));
+                loop {
+                    let i = next.fetch_add(1, Ordering::Relaxed);
+                    let Some(case) = cases.get(i) else { break };
+                    let mut tally = Tally::default();
+                    let result = compare(bench.programs, &scratch, case, &mut tally);
+                    let mut shared = shared.lock().unwrap();
+                    shared.0.add(&tally);
+                    if let Err(what) = result {
+                        keep(bench, i, case, &what);
+                        shared.1.push(Difference { case: i, name: case.name.clone(), what });
+                    }
+                }
+                let _ = fs::remove_dir_all(&scratch);
+            });
+        }
+    });
+    let (tally, mut differences) = shared.into_inner().unwrap();
+    differences.sort_by_key(|difference| difference.case);
+    (tally, differences)
+}
+
+/// A differing case's input, so that it can be run by hand.
+fn keep(bench: &Bench, i: usize, case: &Case, what: &str) {
+    let folder = bench.folder.join(format!("differs-{}-{i}", bench.label));
+    let written = fs::create_dir_all(&folder).and_then(|()| {
+        fs::write(folder.join("what"), format!("{}\n{what}\n", case.name))?;
+        match &case.input {
+            Input::Replay(script) => fs::write(folder.join("script"), script),
+            Input::Clerk { book, logs } => {
+                set_book(&folder, book)?;
+                let write = |(k, (log, _)): (usize, &(Vec<u8>, Feed))| fs::write(folder.join(format!("log-{k}")), log);
+                logs.iter().enumerate().try_for_each(write)
+            }
+        }
+    });
+    if let Err(error) = written {
+        eprintln!("a differing case could not be kept: {error}");
+    }
+}
+
+fn set_book(folder: &Path, book: &BookFile) -> io::Result<()> {
+    let path = folder.join("book.axb");
+    match book {
+        BookFile::Missing => Ok(()),
+        BookFile::Folder => fs::create_dir(path),
+        BookFile::Bytes(bytes) => fs::write(path, bytes),
+    }
+}
+
+fn compare(programs: &Programs, scratch: &Path, case: &Case, tally: &mut Tally) -> Result<(), String> {
+    match &case.input {
+        Input::Replay(script) => compare_replay(programs, scratch, case, script, tally),
+        Input::Clerk { book, logs } => {
+            let _ = fs::remove_dir_all(scratch);
+            fs::create_dir_all(scratch).and_then(|()| set_book(scratch, book)).map_err(|e| e.to_string())?;
+            let start = match book {
+                BookFile::Bytes(bytes) => Some(bytes.clone()),
+                _ => None,
+            };
+            compare_logs(programs, scratch, start, logs, tally)
+        }
+    }
+}
+
+fn compare_replay(
+    programs: &Programs,
+    scratch: &Path,
+    case: &Case,
+    script: &[u8],
+    tally: &mut Tally,
+) -> Result<(), String> {
+    let expected = replay::replay(script);
+    expected.reached.iter().for_each(|&(call, refusal)| tally.reached(call, refusal));
+    tally.close_case();
+    if let Some(numbers) = &case.numbers {
+        meets_intent(&expected.text, numbers)?;
+    }
+    fs::create_dir_all(scratch).map_err(|e| e.to_string())?;
+    let words = programs.words(&programs.replay);
+    let output = run(command(&words, scratch), scratch, script, Feed::Pipe).map_err(|e| e.to_string())?;
+    if output.stdout == expected.text.as_bytes() && output.status.success() {
+        return Ok(());
+    }
+    Err(first_difference(&expected, &output.stdout) + &format!("; {}", output.status))
+}
+
+/// The reference itself against what the case was made for.
+fn meets_intent(text: &str, numbers: &[u8]) -> Result<(), String> {
+    let given: Vec<&str> = text.lines().map(|line| line.split(' ').nth(1).unwrap_or("")).collect();
+    let wanted: Vec<String> = numbers.iter().map(u8::to_string).collect();
+    if given == wanted {
+        return Ok(());
+    }
+    Err(format!("the reference gives {given:?} where the case was made for {wanted:?}"))
+}
+
+fn first_difference(expected: &replay::Outcome, given: &[u8]) -> String {
+    let given = String::from_utf8_lossy(given);
+    let mut lines = expected.text.lines();
+    let mut others = given.lines();
+    for i in 0.. {
+        let (a, b) = (lines.next(), others.next());
+        if a != b {
+            let step = expected.steps.get(i).map_or("the end".to_string(), |at| format!("byte {at}"));
+            return format!("line {} (step at {step}): reference {a:?}, program {b:?}", i + 1);
+        }
+        if a.is_none() {
+            break;
+        }
+    }
+    "the same lines, other bytes or another exit status".to_string()
+}
+
+fn compare_logs(
+    programs: &Programs,
+    scratch: &Path,
+    mut book: Option<Vec<u8>>,
+    logs: &[(Vec<u8>, Feed)],
+    tally: &mut Tally,
+) -> Result<(), String> {
+    for (k, (log, feed)) in logs.iter().enumerate() {
+        let expected = clerk::clerk(book.as_deref(), &log[..]).map_err(|e| e.to_string())?;
+        count_stop(tally, expected.stop);
+        compare_log(programs, scratch, &expected.text, log, *feed).map_err(|what| format!("log {k}: {what}"))?;
+        book = expected.book.or(book);
+        same_file(&scratch.join("book.axb"), book.as_deref()).map_err(|what| format!("log {k}: {what}"))?;
+        nothing_else(scratch).map_err(|what| format!("log {k}: {what}"))?;
+    }
+    tally.close_case();
+    Ok(())
+}
+
+/// No book.axb.new, nor anything else, is left.
+fn nothing_else(scratch: &Path) -> Result<(), String> {
+    for entry in fs::read_dir(scratch).map_err(|e| e.to_string())? {
+        let name = entry.map_err(|e| e.to_string())?.file_name();
+        if name != "book.axb" {
+            return Err(format!("{name:?} is left"));
+        }
+    }
+    Ok(())
+}
+
+fn count_stop(tally: &mut Tally, stop: Option<Stop>) {
+    match stop {
+        None => tally.clerk("accepted", 0, ""),
+        Some(Stop::Call(call, refusal)) => tally.clerk(call, refusal.number(), refusal.note()),
+        Some(Stop::CutRecord) => tally.clerk("log", 1, " (cut-off record)"),
+        Some(Stop::NoEnd) => tally.clerk("log", 1, " (no end record)"),
+        Some(Stop::AfterEnd) => tally.clerk("log", 1, " (bytes after the end)"),
+    }
+}
+
+pub fn compare_log(programs: &Programs, scratch: &Path, text: &str, log: &[u8], feed: Feed) -> Result<(), String> {
+    let words = programs.words(&programs.clerk);
+    let output = run(command(&words, scratch), scratch, log, feed).map_err(|e| e.to_string())?;
+    let given = String::from_utf8_lossy(&output.stdout);
+    if given != text {
+        return Err(format!("reference {:?}, program {:?}", shortened(text), shortened(&given)));
+    }
+    if !output.status.success() || !output.stderr.is_empty() {
+        let error = String::from_utf8_lossy(&output.stderr).into_owned();
+        return Err(format!("{}, standard error {error:?}", output.status));
+    }
+    Ok(())
+}
+
+fn shortened(text: &str) -> String {
+    text.chars().take(300).collect()
+}
+
+/// The file holds these bytes; or, where there are none, it is still no file that can be read.
+pub fn same_file(path: &Path, bytes: Option<&[u8]>) -> Result<(), String> {
+    match (fs::read(path).ok(), bytes) {
+        (Some(found), Some(wanted)) if found == wanted => Ok(()),
+        (None, None) => Ok(()),
+        (Some(found), Some(wanted)) => {
+            let at = found.iter().zip(wanted).position(|(a, b)| a != b);
+            Err(format!("the book differs: {} bytes for {}, first at {at:?}", found.len(), wanted.len()))
+        }
+        (found, _) => Err(format!("the book file is there: {}", found.is_some())),
+    }
+}

@@ -1,0 +1,78 @@
+//! Logs of a million records over full tables, with as many findings as a million records can bring.
+use crate::build::{self, Day, Record, Total};
+use crate::cases::{clerk, BookFile, Case, Feed};
+use crate::edges::full_day;
+use crate::random::Random;
+
+const MILLION: usize = 1_000_000;
+
+/// One of the group's four accounts.
+fn account_of(random: &mut Random, day: &Day, group: usize) -> u32 {
+    day.accounts[group - 1 + 128 * random.below(4)].number
+}
+
+/// Five self-trades on each of the 2,048 ladders of kind 1, then large cancels that count twice: 100 on each ladder of
+/// kind 3, and 400 more on as many as there is room for, so that those reach kind 2 as well.
+fn records(random: &mut Random, day: &Day) -> Vec<Vec<u8>> {
+    let ladders: Vec<(usize, u16)> = (1..=128).flat_map(|group| (0..16).map(move |f| (group, 101 + f))).collect();
+    let mut all = Vec::with_capacity(MILLION + 1);
+    for &(group, contract) in &ladders {
+        for _ in 0..5 {
+            let (buyer, seller) = (account_of(random, day, group), account_of(random, day, group));
+            all.push(Record::Trade { contract, buyer, seller, lots: 7, orders: [(1, 1), (5, 3)] }.bytes());
+        }
+    }
+    for times in [100, 400] {
+        for &(group, contract) in &ladders {
+            for _ in 0..times {
+                let account = account_of(random, day, group);
+                all.push(Record::Cancel { contract, account, lots: 800, order: (6, 1) }.bytes());
+            }
+        }
+    }
+    all.truncate(MILLION);
+    for i in (1..all.len()).rev() {
+        all.swap(i, random.below(i + 1));
+    }
+    all
+}
+
+fn book() -> Vec<u8> {
+    let totals: Vec<Total> = (1..=128).map(|group| Total { group, kind: 2, family: 3, total: 2 }).collect();
+    build::book(2, 20240304, &totals)
+}
+
+/// The book and the log without its end record.
+pub fn million(random: &mut Random) -> (Vec<u8>, Vec<u8>) {
+    let day = full_day(2, 20240305);
+    let mut log = day.tables();
+    records(random, &day).iter().for_each(|record| log.extend(record));
+    (book(), log)
+}
+
+/// The log as `time` runs it.
+pub fn million_log(random: &mut Random) -> (Vec<u8>, Vec<u8>) {
+    let (book, mut log) = million(random);
+    log.extend(build::end_record(MILLION as u32));
+    (book, log)
+}
+
+pub fn large_cases(random: &mut Random) -> Vec<Case> {
+    let (book, log) = million(random);
+    let good = log[log.len() - 20..].to_vec();
+    let mut bad = good.clone();
+    bad[0] = 9;
+    let end = build::end_record(MILLION as u32);
+    let tails = [
+        ("a million records", end.clone()),
+        ("a million records and one", [good.clone(), build::end_record(MILLION as u32 + 1)].concat()),
+        ("a million records and a bad one", [bad, end.clone()].concat()),
+        ("a million records and a cut-off one", good[..19].to_vec()),
+        ("a million records and a byte after the end", [end, vec![0]].concat()),
+    ];
+    let with_tail = |(name, tail): (&str, Vec<u8>)| {
+        let whole = [&log[..], &tail].concat();
+        clerk(name, BookFile::Bytes(book.clone()), vec![(whole, Feed::Uneven)])
+    };
+    tails.into_iter().map(with_tail).collect()
+}

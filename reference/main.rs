@@ -1,0 +1,69 @@
+//! A second reading of document 01 in plain Rust, to hold the proved programs against. It shares nothing with them.
+//!
+//! The reading: `dates`, `rules`, `tables`, `book`, `refusal`, `calls` (the six calls), `clerk`, `replay`.
+//! The cases: `build` (data and its bytes), `days`, `scene` and `faults`; `edges`, `script_edges`, `clerk_edges`,
+//! `generate` (random ones), `large` (a million records).
+//! The check: `run`, `compare`, `tally` (what was reached), `failing` (the write-back made to fail), `check`; `timing`.
+mod book;
+mod build;
+mod calls;
+mod cases;
+mod check;
+mod clerk;
+mod clerk_edges;
+mod compare;
+mod dates;
+mod days;
+mod edges;
+mod failing;
+mod faults;
+mod generate;
+mod large;
+mod random;
+mod refusal;
+mod replay;
+mod rules;
+mod run;
+mod scene;
+mod script_edges;
+mod tables;
+mod tally;
+mod timing;
+
+use std::io::{self, Read, Write};
+use std::path::Path;
+use std::process::ExitCode;
+
+const USAGE: &str = "usage: reference clerk
+       reference replay
+       reference check SEED FRESH-SEED ROOT [WORDS BEFORE A PROGRAM]
+       reference time FOLDER PROGRAM [ITS WORDS]";
+
+fn main() -> ExitCode {
+    let words: Vec<String> = std::env::args().collect();
+    let rest: Vec<&str> = words.iter().skip(1).map(String::as_str).collect();
+    let result = match rest[..] {
+        ["clerk"] => clerk::program(),
+        ["replay"] => replay_program(),
+        ["check", seed, fresh, root, ref before @ ..] => return check::check([seed, fresh], Path::new(root), before),
+        ["time", folder, ref theirs @ ..] if !theirs.is_empty() => {
+            let theirs: Vec<String> = theirs.iter().map(|word| word.to_string()).collect();
+            timing::time(Path::new(folder), &[words[0].clone(), "clerk".to_string()], &theirs)
+        }
+        _ => Err(io::Error::other(USAGE)),
+    };
+    match result {
+        Ok(()) => ExitCode::SUCCESS,
+        Err(error) => {
+            eprintln!("{error}");
+            ExitCode::FAILURE
+        }
+    }
+}
+
+/// One byte more than the longest script is enough to see that it is too long.
+fn replay_program() -> io::Result<()> {
+    let mut script = Vec::new();
+    io::stdin().lock().take(1_000_001).read_to_end(&mut script)?;
+    io::stdout().write_all(replay::replay(&script).text.as_bytes())
+}

@@ -1,0 +1,108 @@
+//! The refusals of document 01. Two of its numbers stand at two places in an order: each place has a case of its
+//! own here, so that a run can show that both were reached.
+
+#[derive(Clone, Copy, PartialEq, Eq, PartialOrd, Ord, Debug)]
+pub enum Refusal {
+    Short,
+    Mark,
+    Version,
+    Rulebook,
+    Date,
+    Header,
+    Length,
+    Contract,
+    Account,
+    NotLater,
+    DayState,
+    Record,
+    NoContract,
+    NoAccount,
+    Full,
+    EndNumber,
+    Counts,
+    Book,
+    OtherRulebook,
+    TablesChanged,
+    CellsChanged,
+    Findings,
+    Asked,
+}
+
+use Refusal::*;
+
+impl Refusal {
+    pub fn number(self) -> u8 {
+        match self {
+            Short | Length => 1,
+            Mark => 2,
+            Version => 3,
+            Rulebook => 4,
+            Date => 5,
+            Header => 6,
+            Contract => 7,
+            Account => 8,
+            NotLater => 9,
+            DayState => 10,
+            Record => 11,
+            NoContract => 12,
+            NoAccount => 13,
+            Full => 14,
+            EndNumber => 15,
+            Counts => 16,
+            Book => 17,
+            OtherRulebook => 18,
+            TablesChanged | CellsChanged => 19,
+            Findings => 20,
+            Asked => 21,
+        }
+    }
+
+    pub fn note(self) -> &'static str {
+        match self {
+            Short => " (under 16)",
+            TablesChanged => " (tables)",
+            CellsChanged => " (cells)",
+            _ => "",
+        }
+    }
+}
+
+/// A call's order of refusals, as document 01 writes it.
+pub fn order(call: &str) -> &'static [Refusal] {
+    match call {
+        "fresh" => &[Rulebook, Book],
+        "open" => &[
+            DayState,
+            Short,
+            Mark,
+            Version,
+            Rulebook,
+            Date,
+            Header,
+            Length,
+            Contract,
+            Account,
+            Book,
+            OtherRulebook,
+            NotLater,
+            Counts,
+        ],
+        "take" => &[DayState, Length, Counts, TablesChanged, Record, NoContract, NoAccount, Full, CellsChanged],
+        "end" => &[
+            DayState,
+            Length,
+            Counts,
+            TablesChanged,
+            Record,
+            EndNumber,
+            Book,
+            OtherRulebook,
+            NotLater,
+            CellsChanged,
+            Findings,
+        ],
+        "abandon" => &[DayState],
+        "ask" => &[Book, Asked],
+        _ => panic!("no call {call}"),
+    }
+}

@@ -1,0 +1,63 @@
+//! What the exchanges' texts say (document 01, "What counts" and "Ladders"), with no bytes.
+
+/// The number of contract and account entries, groups and so on that everything is laid out by.
+pub const GROUPS: usize = 128;
+pub const KINDS: usize = 3;
+pub const FAMILIES: usize = 16;
+pub const PLACES: usize = 32;
+
+pub fn is_exempt(rulebook: u8, kind: usize, instruction: u8, purpose: u8) -> bool {
+    if rulebook == 1 {
+        (2..=6).contains(&instruction) || purpose == 2 || purpose == 3 || (purpose == 4 && kind == 2)
+    } else {
+        instruction == 2
+            || (instruction == 1 && kind == 2)
+            || purpose == 2
+            || (purpose == 3 && kind != 1)
+            || (purpose == 4 && kind == 2)
+    }
+}
+
+/// By multiplying: four fifths are never rounded. Lots and largest orders are at most 1,000,000.
+pub fn is_large(rulebook: u8, lots: u32, largest: u32) -> bool {
+    if rulebook == 1 {
+        5 * lots > 4 * largest
+    } else {
+        5 * lots >= 4 * largest
+    }
+}
+
+/// The times on one contract in one day that make an offence.
+pub fn enough(rulebook: u8, kind: usize) -> u32 {
+    match (kind, rulebook) {
+        (1, _) => 5,
+        (2, _) => 500,
+        (_, 1) => 400,
+        _ => 100,
+    }
+}
+
+/// Rulebook 1 counts futures and options apart; rulebook 2 goes by product.
+pub fn family(rulebook: u8, contract_type: u8, product: u8) -> usize {
+    if rulebook == 1 {
+        contract_type as usize - 1
+    } else {
+        product as usize
+    }
+}
+
+/// Three offences start the count again; no offence is on no rung.
+pub fn rung(total: u16) -> u8 {
+    match total {
+        0 => 0,
+        n => ((n - 1) % 3 + 1) as u8,
+    }
+}
+
+pub fn sanction(rulebook: u8, has_member: bool, rung: u8) -> u8 {
+    match (rulebook == 1 && has_member, rung) {
+        (true, 2) => 4,
+        (true, 3) => 5,
+        _ => rung,
+    }
+}

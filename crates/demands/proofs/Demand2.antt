@@ -4,24 +4,29 @@ use mathlib.Core.Logic.{_⊎_, inl, inr}
 use mathlib.Core.Bool.{Bool, true, false}
 use mathlib.Core.List.{List, [], _∷_, map}
 use Prim.Native.Nat.{ℕ}
-use borrow.Author.Tests.{eqb-true}
-use lib.Dec.{eqb}
+use borrow.Author.Tests.{eqb-true, le-leb}
+use lib.Dec.{leb, eqb, lit<}
 use lib.ListN.{length}
 use Rattle.wire.specs.Choice.{pick, within}
-use Rattle.wire.proofs.ChoiceLaws.{pick-zero, or-none}
+use Rattle.wire.proofs.ChoiceLaws.{pick-yes, pick-no, pick-zero, or-none, and-yes}
 use Rattle.book.specs.Fresh.{freshFault, freshBook}
 use Rattle.book.specs.Sound.{sound}
-use Rattle.book.proofs.FreshLaws.{fresh-holds}
+use Rattle.book.proofs.FreshLaws.{made, fresh-holds}
 use Rattle.daylog.specs.declared.record.Record.{Record}
 use Rattle.desk.specs.declared.state.State.{State}
 use Rattle.desk.specs.declared.state.State.the-variants.{Closed}
-use Rattle.demands.specs.Days.{bookOver}
+use Rattle.daylog.specs.Header.{headerOf, logFault}
+use Rattle.desk.specs.Open.{bookFault}
+use Rattle.desk.specs.End.{rowFault}
+use Rattle.demands.specs.Counts.{howMany}
+use Rattle.demands.specs.Days.{offenceDays, lastOf, bookOver}
 use Rattle.demands.specs.Calls.{Call, makeBook, openDay, takeRecord, endDay, abandonDay, askBook, Reply, numberIn, Desk, Given, Gives, Ran, none, next}
-use Rattle.demands.specs.Paper.{Course, idle, during, Paper, Ruled, endRefusal, endRuled, openRuled, takeRuled, rule, rules}
-use Rattle.demands.specs.Demand2.{Seen, seen, ruled, begun, CallsRuled, None, NeverChanged, NeverUnsound, FindingsListed, History, recorded, history, left, BookOfDays}
-use Rattle.demands.proofs.CallLaws.{Stands, rest, busy, Same, step, desk}
+use Rattle.demands.specs.Paper.{Course, idle, during, Paper, Ruled, dayIn, endRefusal, endRuled, openRuled, takeRuled, rule, rules}
+use Rattle.demands.specs.Demand2.{Seen, seen, ruled, begun, CallsRuled, None, none as nothing, more, NeverChanged, NeverUnsound, FindingsListed, History, recorded, history, left, BookOfDays}
+use Rattle.demands.proofs.CallLaws.{Stands, rest, busy, Same, step, desk, paper}
 use Rattle.demands.proofs.ListedLaws.{findings-list}
-use Rattle.demands.proofs.TotalLaws.{Kept, kept-none, kept-day, ready, ended-sound}
+use Rattle.demands.proofs.NumberLaws.{number-is, never-19, never-17}
+use Rattle.demands.proofs.TotalLaws.{Ready, Kept, kept-none, kept-day, ready, ended-sound}
 
 -- ---- any list of calls
 same-seen : {reply reply′ : Reply} {book book′ out out′ : List ℕ} → reply ≡ reply′ → book ≡ book′ → out ≡ out′
@@ -52,7 +57,136 @@ calls-ruled w cs gs e r = runs (begins w e) r
 pub findings-listed : FindingsListed
 findings-listed t rs date book = findings-list t rs date book
 
+-- ---- refusals
+pub never-changed : NeverChanged
+never-changed w cs gs e r = all (begins w e) r
+  where
+    all : {w : Desk} {p : Paper} {cs : List Call} {gs : List Given} → Stands w p → Ran w cs gs → None 19 gs
+    all s none = nothing
+    all {p = p} s (next {c = c} g r) =
+        let t = step s g in
+        more (λ q. never-19 p (p .course) c (sym (number-is p (p .course) c) ∙ ap numberIn (sym (t .reply)) ∙ q)) (all (t .after) r)
+
+-- what a choice between two papers leaves in the book
+book-of : (t : Bool) (p q : Paper) → p .book ≡ q .book → pick t p q .book ≡ q .book
+unfolding pick
+book-of true p q e = e
+book-of false p q e = refl
+
+-- the book that a call leaves: as it was, but for a fresh one and at a day's end
+same-book : {w : Desk} {p : Paper} → Stands w p → (log : List ℕ) → rule p (p .course) (openDay log) .after .book ≡ p .book
+unfolding rule openRuled
+same-book (rest n) log = book-of _ _ _ refl
+same-book (busy n a) log = refl
+
+taken-book : {w : Desk} {p : Paper} → Stands w p → (row : List ℕ) → rule p (p .course) (takeRecord row) .after .book ≡ p .book
+unfolding rule takeRuled
+taken-book (rest n) row = refl
+taken-book (busy n a) row = book-of _ _ _ refl
+
+left-book : {w : Desk} {p : Paper} → Stands w p → rule p (p .course) abandonDay .after .book ≡ p .book
+unfolding rule
+left-book (rest n) = refl
+left-book (busy n a) = refl
+
+-- a day ended on a book that allows it
+end-ready : (log : List ℕ) (rs : List Record) (row book : List ℕ) (room : ℕ) → logFault log ≡ 0 → endRefusal log rs row book room ≡ 0 → Ready log book
+unfolding endRefusal
+end-ready log rs row book room e f =
+    let q = or-none (rowFault (dayIn log rs) row) _ (pick-zero _ 1 _ (lit< tt) f .1) in
+    ready log book e (or-none (bookFault (headerOf log) book) _ (q .1) .0)
+
+-- ---- the book stays sound
+kept-fresh : (book : List ℕ) (rulebook : ℕ) → eqb (freshFault (length book) rulebook) 0 ≡ false → freshBook book rulebook ≡ book
+unfolding freshBook
+kept-fresh book rulebook e = sym (pick-no _ _ _ _ e refl)
+
+sound-fresh : (book : List ℕ) (rulebook : ℕ) → sound book ≡ true → sound (freshBook book rulebook) ≡ true
+sound-fresh book rulebook good = go (eqb (freshFault (length book) rulebook) 0) refl
+  where
+    go : (t : Bool) → eqb (freshFault (length book) rulebook) 0 ≡ t → sound (freshBook book rulebook) ≡ true
+    go true e = fresh-holds book rulebook (eqb-true _ 0 e) .good
+    go false e = ap sound (kept-fresh book rulebook e) ∙ good
+
+sound-step : {w : Desk} {p : Paper} → Stands w p → sound (p .book) ≡ true → (c : Call) → sound (rule p (p .course) c .after .book) ≡ true
+unfolding rule endRuled
+sound-step s good (makeBook rulebook) = sound-fresh _ rulebook good
+sound-step s good (askBook group kind family) = good
+sound-step s good (openDay log) = ap sound (same-book s log) ∙ good
+sound-step s good (takeRecord row) = ap sound (taken-book s row) ∙ good
+sound-step s good abandonDay = ap sound (left-book s) ∙ good
+sound-step (rest n) good (endDay row) = good
+sound-step (busy {log} {c} {book} {out} {rs} {room} n a) good (endDay row) = go (eqb (endRefusal log rs row book (length out)) 0) refl
+  where
+    go : (t : Bool) → eqb (endRefusal log rs row book (length out)) 0 ≡ t → sound (rule (paper (during log rs) book out room) (during log rs) (endDay row) .after .book) ≡ true
+    go true e =
+        ap (λ (q : Paper). sound (q .book)) (sym (pick-yes _ _ _ _ e refl))
+        ∙ ended-sound log book rs (end-ready log rs row book (length out) (a .sound) (eqb-true _ 0 e))
+    go false e = ap (λ (q : Paper). sound (q .book)) (sym (pick-no _ _ _ _ e refl)) ∙ good
+
+pub never-unsound : NeverUnsound
+never-unsound w cs gs e good r = all (begins w e) good r
+  where
+    all : {w : Desk} {p : Paper} {cs : List Call} {gs : List Given} → Stands w p → sound (p .book) ≡ true → Ran w cs gs → None 17 gs
+    all s good none = nothing
+    all {p = p} s good (next {c = c} g r) =
+        let t = step s g in
+        more (λ q. never-17 p (p .course) c good (sym (number-is p (p .course) c) ∙ ap numberIn (sym (t .reply)) ∙ q)) (all (t .after) (sound-step s good c) r)
+
 -- ---- totals
 one-of : (rulebook : ℕ) → (rulebook ≡ 1) ⊎ (rulebook ≡ 2) → within 1 2 rulebook ≡ true
 one-of rulebook (inl e) = rw e
 one-of rulebook (inr e) = rw e
+
+-- the book is that of a history
+abbrev Holds : History → List ℕ → Type 0
+Holds h book = Kept (h .rulebook) (h .days) book
+
+made-known : (len rulebook : ℕ) → freshFault len rulebook ≡ 0 → within 1 2 rulebook ≡ true
+made-known len rulebook e =
+    let m = made len rulebook e in
+    and-yes (leb 1 rulebook) (leb rulebook 2) (le-leb 1 rulebook (m .first-rulebook)) (le-leb rulebook 2 (m .last-rulebook))
+
+fresh-is : (book : List ℕ) (rulebook : ℕ) → eqb (freshFault (length book) rulebook) 0 ≡ true → freshBook book rulebook ≡ bookOver rulebook []
+unfolding freshBook bookOver offenceDays howMany lastOf
+fresh-is book rulebook e = sym (pick-yes _ _ _ _ e refl)
+
+holds-fresh : (h : History) (book : List ℕ) (rulebook : ℕ) → Holds h book
+    → Holds (pick (eqb (freshFault (length book) rulebook) 0) (record { rulebook = rulebook; days = [] }) h) (freshBook book rulebook)
+holds-fresh h book rulebook k = go (eqb (freshFault (length book) rulebook) 0) refl
+  where
+    go : (t : Bool) → eqb (freshFault (length book) rulebook) 0 ≡ t
+        → Holds (pick (eqb (freshFault (length book) rulebook) 0) (record { rulebook = rulebook; days = [] }) h) (freshBook book rulebook)
+    go true e =
+        subst (λ (q : History). Holds q (freshBook book rulebook)) (pick-yes _ _ _ _ e refl)
+        (subst (Kept rulebook []) (sym (fresh-is book rulebook e)) (kept-none rulebook (made-known (length book) rulebook (eqb-true _ 0 e))))
+    go false e =
+        subst (λ (q : History). Holds q (freshBook book rulebook)) (pick-no _ _ _ _ e refl)
+        (subst (Kept (h .rulebook) (h .days)) (sym (kept-fresh book rulebook e)) k)
+
+choose : (t : Bool) (h₁ h : History) (p₁ p : Paper) → (t ≡ true → Holds h₁ (p₁ .book)) → Holds h (p .book) → Holds (pick t h₁ h) (pick t p₁ p .book)
+unfolding pick
+choose true h₁ h p₁ p y n = y refl
+choose false h₁ h p₁ p y n = n
+
+holds-step : {w : Desk} {p : Paper} (h : History) → Stands w p → Holds h (p .book) → (c : Call)
+    → Holds (recorded p (p .course) c h) (rule p (p .course) c .after .book)
+unfolding rule endRuled recorded
+holds-step h s k (makeBook rulebook) = holds-fresh h _ rulebook k
+holds-step h s k (askBook group kind family) = k
+holds-step h s k (openDay log) = subst (Kept (h .rulebook) (h .days)) (sym (same-book s log)) k
+holds-step h s k (takeRecord row) = subst (Kept (h .rulebook) (h .days)) (sym (taken-book s row)) k
+holds-step h s k abandonDay = subst (Kept (h .rulebook) (h .days)) (sym (left-book s)) k
+holds-step h (rest n) k (endDay row) = k
+holds-step h (busy {log} {c} {book} {out} {rs} {room} n a) k (endDay row) =
+    choose (eqb (endRefusal log rs row book (length out)) 0) _ h _ (paper (during log rs) book out room)
+    (λ e. kept-day (h .rulebook) (h .days) log book rs k (end-ready log rs row book (length out) (a .sound) (eqb-true _ 0 e))) k
+
+pub book-of-days : BookOfDays
+unfolding left history
+book-of-days w rulebook cs gs e one b r = all (record { rulebook = rulebook; days = [] }) (begins w e) (subst (Kept rulebook []) (sym b) (kept-none rulebook (one-of rulebook one))) r
+  where
+    all : {w : Desk} {p : Paper} {cs : List Call} {gs : List Given} (h : History) → Stands w p → Holds h (p .book) → Ran w cs gs
+        → left w gs .book ≡ bookOver (history p h cs .rulebook) (history p h cs .days)
+    all h s k none = stands-book s ∙ k .is
+    all {p = p} h s k (next {c = c} g r) = all (recorded p (p .course) c h) (step s g .after) (holds-step h s k c) r

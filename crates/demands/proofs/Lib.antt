@@ -7,4 +7,5 @@ pub mod TotalLaws
 pub mod NumberLaws
 pub mod Demand2
 pub mod JoinTables
+pub mod JoinCounts
 pub mod Starred

@@ -22,6 +22,7 @@ use Rattle.demands.specs.Counts.{timesOn}
 use Rattle.demands.specs.Days.{Ended, lastOf, offenceDays, bookOver}
 use Rattle.demands.specs.Listed.{Lists}
 use Rattle.demands.specs.Calls.{Call, makeBook, openDay, takeRecord, endDay, abandonDay, askBook, Reply, numberIn, Desk, Given, Ran}
+use Rattle.demands.specs.Logs.{Judged, JudgesAll, ruledLogs}
 use Rattle.demands.specs.Paper.{Course, idle, during, Paper, Ruled, endRefusal, rule, rules}
 
 -- ---- any list of calls
@@ -93,3 +94,13 @@ left w (g ∷ gs) = left (g .after) gs
 abbrev pub BookOfDays : Type 0
 BookOfDays = (w : Desk) (rulebook : ℕ) (cs : List Call) (gs : List Given) → w .state ≡ Closed → (rulebook ≡ 1) ⊎ (rulebook ≡ 2) → w .book ≡ bookOver rulebook [] → Ran w cs gs
     → left w gs .book ≡ bookOver (history (begun w) (record { rulebook = rulebook; days = [] }) cs .rulebook) (history (begun w) (record { rulebook = rulebook; days = [] }) cs .days)
+
+-- and each total is the number of that year's days, among those, that were an offence
+abbrev pub TotalsCounted : Type 0
+TotalsCounted = (w : Desk) (rulebook : ℕ) (cs : List Call) (gs : List Given) → w .state ≡ Closed → (rulebook ≡ 1) ⊎ (rulebook ≡ 2) → w .book ≡ bookOver rulebook [] → Ran w cs gs
+    → (ladder : ℕ) → ladder < ladders → totalAt (left w gs .book) ladder
+    ≡ offenceDays (year (lastDate (left w gs .book))) ladder (history (begun w) (record { rulebook = rulebook; days = [] }) cs .days)
+
+-- ---- any list of day logs as bytes, as the clerk reads them: the numbers, the findings and the book's file are the rules'
+abbrev pub LogsRuled : Type 0
+LogsRuled = (book : List ℕ) (logs : List (List ℕ)) (js : List Judged) → JudgesAll book logs js → js ≡ ruledLogs book logs

@@ -3,6 +3,7 @@ pub mod Days
 pub mod Listed
 pub mod Calls
 pub mod Paper
+pub mod Logs
 pub mod Demand2
 pub mod Join
 pub mod Starred

@@ -18,15 +18,16 @@ use Rattle.desk.specs.declared.state.State.the-variants.{Closed}
 use Rattle.daylog.specs.Header.{headerOf, logFault}
 use Rattle.desk.specs.Open.{bookFault}
 use Rattle.desk.specs.End.{rowFault}
+use Rattle.calendar.specs.Dates.{year}
 use Rattle.demands.specs.Counts.{howMany}
 use Rattle.demands.specs.Days.{offenceDays, lastOf, bookOver}
 use Rattle.demands.specs.Calls.{Call, makeBook, openDay, takeRecord, endDay, abandonDay, askBook, Reply, numberIn, Desk, Given, Gives, Ran, none, next}
 use Rattle.demands.specs.Paper.{Course, idle, during, Paper, Ruled, dayIn, endRefusal, endRuled, openRuled, takeRuled, rule, rules}
-use Rattle.demands.specs.Demand2.{Seen, seen, ruled, begun, CallsRuled, None, none as nothing, more, NeverChanged, NeverUnsound, FindingsListed, History, recorded, history, left, BookOfDays}
+use Rattle.demands.specs.Demand2.{Seen, seen, ruled, begun, CallsRuled, None, none as nothing, more, NeverChanged, NeverUnsound, FindingsListed, History, recorded, history, left, BookOfDays, TotalsCounted}
 use Rattle.demands.proofs.CallLaws.{Stands, rest, busy, Same, step, desk, paper}
 use Rattle.demands.proofs.ListedLaws.{findings-list}
 use Rattle.demands.proofs.NumberLaws.{number-is, never-19, never-17}
-use Rattle.demands.proofs.TotalLaws.{Ready, Kept, kept-none, kept-day, ready, ended-sound}
+use Rattle.demands.proofs.TotalLaws.{Ready, Kept, kept-none, kept-day, last-is, total-was, ready, ended-sound}
 
 -- ---- any list of calls
 same-seen : {reply reply′ : Reply} {book book′ out out′ : List ℕ} → reply ≡ reply′ → book ≡ book′ → out ≡ out′
@@ -41,7 +42,7 @@ stands-out : {w : Desk} {p : Paper} → Stands w p → w .out ≡ p .out
 stands-out (rest n) = refl
 stands-out (busy n a) = refl
 
-begins : (w : Desk) → w .state ≡ Closed → Stands w (begun w)
+pub begins : (w : Desk) → w .state ≡ Closed → Stands w (begun w)
 begins w e = subst (λ (s : State). Stands (desk s (w .log) (w .counts) (w .book) (w .out)) (begun w)) (sym e) (rest refl)
 
 runs : {w : Desk} {p : Paper} {cs : List Call} {gs : List Given} → Stands w p → Ran w cs gs → map seen gs ≡ map ruled (rules p cs)
@@ -139,7 +140,7 @@ one-of rulebook (inl e) = rw e
 one-of rulebook (inr e) = rw e
 
 -- the book is that of a history
-abbrev Holds : History → List ℕ → Type 0
+abbrev pub Holds : History → List ℕ → Type 0
 Holds h book = Kept (h .rulebook) (h .days) book
 
 made-known : (len rulebook : ℕ) → freshFault len rulebook ≡ 0 → within 1 2 rulebook ≡ true
@@ -182,11 +183,23 @@ holds-step h (busy {log} {c} {book} {out} {rs} {room} n a) k (endDay row) =
     choose (eqb (endRefusal log rs row book (length out)) 0) _ h _ (paper (during log rs) book out room)
     (λ e. kept-day (h .rulebook) (h .days) log book rs k (end-ready log rs row book (length out) (a .sound) (eqb-true _ 0 e))) k
 
-pub book-of-days : BookOfDays
+holds-run : {w : Desk} {p : Paper} {cs : List Call} {gs : List Given} (h : History) → Stands w p → Holds h (p .book) → Ran w cs gs
+    → Holds (history p h cs) (left w gs .book)
 unfolding left history
-book-of-days w rulebook cs gs e one b r = all (record { rulebook = rulebook; days = [] }) (begins w e) (subst (Kept rulebook []) (sym b) (kept-none rulebook (one-of rulebook one))) r
-  where
-    all : {w : Desk} {p : Paper} {cs : List Call} {gs : List Given} (h : History) → Stands w p → Holds h (p .book) → Ran w cs gs
-        → left w gs .book ≡ bookOver (history p h cs .rulebook) (history p h cs .days)
-    all h s k none = stands-book s ∙ k .is
-    all {p = p} h s k (next {c = c} g r) = all (recorded p (p .course) c h) (step s g .after) (holds-step h s k c) r
+holds-run h s k none = subst (Kept (h .rulebook) (h .days)) (sym (stands-book s)) k
+holds-run {p = p} h s k (next {c = c} g r) = holds-run (recorded p (p .course) c h) (step s g .after) (holds-step h s k c) r
+
+-- what a run from a fresh book leaves
+pub fresh-run : (w : Desk) (rulebook : ℕ) (cs : List Call) (gs : List Given) → w .state ≡ Closed → (rulebook ≡ 1) ⊎ (rulebook ≡ 2)
+    → w .book ≡ bookOver rulebook [] → Ran w cs gs → Holds (history (begun w) (record { rulebook = rulebook; days = [] }) cs) (left w gs .book)
+fresh-run w rulebook cs gs e one b r =
+    holds-run (record { rulebook = rulebook; days = [] }) (begins w e) (subst (Kept rulebook []) (sym b) (kept-none rulebook (one-of rulebook one))) r
+
+pub book-of-days : BookOfDays
+book-of-days w rulebook cs gs e one b r = fresh-run w rulebook cs gs e one b r .is
+
+pub totals-counted : TotalsCounted
+totals-counted w rulebook cs gs e one b r l h =
+    let k = fresh-run w rulebook cs gs e one b r in
+    let days = history (begun w) (record { rulebook = rulebook; days = [] }) cs .days in
+    total-was _ _ _ k l h ∙ ap (λ (n : ℕ). offenceDays (year n) l days) (sym (last-is _ _ _ k))

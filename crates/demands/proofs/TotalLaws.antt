@@ -79,6 +79,18 @@ pub kept-none : (rulebook : ℕ) → within 1 2 rulebook ≡ true → Kept ruleb
 unfolding bookOver offenceDays howMany lastOf Rising
 kept-none rulebook k = record { known = k; is = refl; small = λ l h. omega arith; short = omega arith; rises = tt; good = fresh-sound rulebook k }
 
+-- what can be read from it
+module _ (rulebook : ℕ) (days : List Ended) (book : List ℕ) (k : Kept rulebook days book) where
+  pub last-is : lastDate book ≡ lastOf days
+  unfolding bookOver
+  last-is = ap lastDate (k .is) ∙ date-of-book rulebook (lastOf days) _ (k .short)
+
+  pub total-was : (l : ℕ) → l < 6144 → totalAt book l ≡ offenceDays (year (lastOf days)) l days
+  unfolding bookOver
+  total-was l h =
+      ap (λ (s : List ℕ). totalAt s l) (k .is)
+      ∙ total-of-book rulebook (lastOf days) (λ l. offenceDays (year (lastOf days)) l days) l h (k .small l h)
+
 -- the day that is ended
 abbrev pub dayOf : List ℕ → List Record → Ended
 dayOf log rs = record { date = headerOf log .date; tables = tablesOf log; records = rs }
@@ -89,14 +101,6 @@ module _ (rulebook : ℕ) (days : List Ended) (log book : List ℕ) (rs : List R
 
   abbrev t : Tables
   t = tablesOf log
-
-  last-is : lastDate book ≡ lastOf days
-  unfolding bookOver
-  last-is = ap lastDate (k .is) ∙ date-of-book rulebook (lastOf days) _ (k .short)
-
-  total-was : (l : ℕ) → l < 6144 → totalAt book l ≡ offenceDays (year (lastOf days)) l days
-  unfolding bookOver
-  total-was l h = ap (λ (s : List ℕ). totalAt s l) (k .is) ∙ total-of-book rulebook (lastOf days) (λ l. offenceDays (year (lastOf days)) l days) l h (k .small l h)
 
   rulebook-is : t .rulebook ≡ rulebook
   unfolding bookOver
@@ -109,10 +113,10 @@ module _ (rulebook : ℕ) (days : List Ended) (log book : List ℕ) (rs : List R
       go : (b : Bool) → laterYear book date ≡ b → pick (laterYear book date) 0 (totalAt book l) ≡ offenceDays (year date) l days
       go true e =
           sym (pick-yes _ _ _ _ e refl)
-          ∙ sym (earlier-none (year date) l days (k .rises) (omega (arith, ltb-true (year (lastDate book)) (year date) e, ap year last-is)))
+          ∙ sym (earlier-none (year date) l days (k .rises) (omega (arith, ltb-true (year (lastDate book)) (year date) e, ap year (last-is rulebook days book k))))
       go false e =
-          let y : year (lastOf days) ≡ year date = omega (arith, ltb-false (year (lastDate book)) (year date) e, year-rises (lastDate book) date (omega (arith, q .later)), ap year last-is) in
-          sym (pick-no _ _ _ _ e refl) ∙ total-was l h ∙ ap (λ (n : ℕ). offenceDays n l days) y
+          let y : year (lastOf days) ≡ year date = omega (arith, ltb-false (year (lastDate book)) (year date) e, year-rises (lastDate book) date (omega (arith, q .later)), ap year (last-is rulebook days book k)) in
+          sym (pick-no _ _ _ _ e refl) ∙ total-was rulebook days book k l h ∙ ap (λ (n : ℕ). offenceDays n l days) y
 
   this-year : (y : ℕ) (b : Bool) → b ≡ eqb y y && b
   this-year y b = rw (eq-eqb y y refl)
@@ -130,6 +134,6 @@ module _ (rulebook : ℕ) (days : List Ended) (log book : List ℕ) (rs : List R
     is = ap₂ (λ (r : ℕ) (s : List ℕ). headOf r date ++ s) rulebook-is (rows-cong _ _ 6144 (λ l h. ap (bytes 2) (total-is l h)));
     small = λ l h. omega (arith, sym (total-is l h) ∙ after-is t date book (timesOn t rs) (q .facts) (q .same) (q .date) (q .later) l h, kept-total t date book (timesOn t rs) (q .facts) (q .same) (q .date) (q .later) l h, sound-most _ (sound-facts _ (ended-sound log book rs q)) l h);
     short = omega (arith, real date (q .date) .last-year);
-    rises = (omega (arith, q .later, last-is), k .rises);
+    rises = (omega (arith, q .later, last-is rulebook days book k), k .rises);
     good = ended-sound log book rs q;
   }

@@ -6,4 +6,6 @@ pub mod Paper
 pub mod Logs
 pub mod Demand2
 pub mod Join
+pub mod Restrictions
+pub mod Demand3
 pub mod Starred

@@ -1,0 +1,43 @@
+-- 01, "Ladders": sanctions over days, and the opening restrictions among them: "3 (no opening, at least one month)" and
+-- "5 (no opening, at least three months)".
+use mathlib.Core.Path.{_≡_}
+use Prim.Native.Nat.{ℕ, _+_, _<_}
+use mathlib.Core.Bool.{Bool, _||_}
+use mathlib.Core.List.{List, [], _∷_}
+use lib.Dec.{eqb}
+use lib.ListN.{getD}
+use Rattle.wire.specs.Choice.{pick}
+use Rattle.calendar.specs.Dates.{year}
+use Rattle.rules.specs.Ladders.{rung, sanction}
+use Rattle.book.specs.Layout.{ladders}
+use Rattle.desk.specs.Offences.{groupAt}
+use Rattle.desk.specs.Findings.{memberOn, foundAt}
+use Rattle.demands.specs.Counts.{timesOn}
+use Rattle.demands.specs.Days.{Ended, offenceOn, offenceDays, bookOver}
+
+-- the sanction of a day's finding on a ladder, after the days before it; 0 where there is none
+unfoldable pub sanctionOn : ℕ → Ended → List Ended → ℕ
+sanctionOn ladder d before =
+    pick (offenceOn ladder d)
+    (sanction (d .tables .rulebook) (rung (offenceDays (year (d .date)) ladder (d ∷ before))) (memberOn (d .tables) (groupAt ladder)))
+    0
+
+abbrev pub noOpening : ℕ → Bool
+noOpening s = eqb s 3 || eqb s 5
+
+-- how many findings on a ladder had a sanction that a test picks out; the latest day stands first
+unfoldable pub sanctions : (ℕ → Bool) → ℕ → List Ended → ℕ
+sanctions test ladder [] = 0
+sanctions test ladder (d ∷ before) = pick (test (sanctionOn ladder d before)) 1 0 + sanctions test ladder before
+
+-- "its number of opening restrictions (findings with sanction 3 or 5)"
+abbrev pub restrictions : ℕ → List Ended → ℕ
+restrictions = sanctions noOpening
+
+-- ---- the sanctions of a run's days are those in its findings: byte 3 of each
+pub data Sanctioned (rulebook : ℕ) : List Ended → Type 0 where
+  none : Sanctioned rulebook []
+  more : {d : Ended} {days : List Ended}
+      → ((l : ℕ) → l < ladders
+      → getD (foundAt (d .tables) (d .date) (bookOver rulebook days) (timesOn (d .tables) (d .records)) l) 3 0 ≡ sanctionOn l d days)
+      → Sanctioned rulebook days → Sanctioned rulebook (d ∷ days)

@@ -46,6 +46,14 @@ pub data Stands : Desk → Paper → Type 0 where
   busy : {log c book out : List ℕ} {rs : List Record} {room : ℕ} → length c ≡ room → Agrees log rs c
       → Stands (desk (Open (dayIn log rs)) log c book out) (paper (during log rs) book out room)
 
+pub stands-book : {w : Desk} {p : Paper} → Stands w p → w .book ≡ p .book
+stands-book (rest n) = refl
+stands-book (busy n a) = refl
+
+pub stands-out : {w : Desk} {p : Paper} → Stands w p → w .out ≡ p .out
+stands-out (rest n) = refl
+stands-out (busy n a) = refl
+
 pub record Same (g : Given) (r : Ruled) : Type 0 where
   pub reply : g .reply ≡ r .reply
   pub after : Stands (g .after) (r .after)

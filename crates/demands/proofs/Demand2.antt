@@ -24,7 +24,7 @@ use Rattle.demands.specs.Days.{offenceDays, lastOf, bookOver}
 use Rattle.demands.specs.Calls.{Call, makeBook, openDay, takeRecord, endDay, abandonDay, askBook, Reply, numberIn, Desk, Given, Gives, Ran, none, next}
 use Rattle.demands.specs.Paper.{Course, idle, during, Paper, Ruled, dayIn, endRefusal, endRuled, openRuled, takeRuled, rule, rules}
 use Rattle.demands.specs.Demand2.{Seen, seen, ruled, begun, CallsRuled, None, none as nothing, more, NeverChanged, NeverUnsound, FindingsListed, History, recorded, history, left, BookOfDays, TotalsCounted}
-use Rattle.demands.proofs.CallLaws.{Stands, rest, busy, Same, step, desk, paper}
+use Rattle.demands.proofs.CallLaws.{Stands, rest, busy, Same, step, stands-book, stands-out, desk, paper}
 use Rattle.demands.proofs.ListedLaws.{findings-list}
 use Rattle.demands.proofs.NumberLaws.{number-is, never-19, never-17}
 use Rattle.demands.proofs.TotalLaws.{Ready, Kept, kept-none, kept-day, last-is, total-was, ready, ended-sound}
@@ -33,14 +33,6 @@ use Rattle.demands.proofs.TotalLaws.{Ready, Kept, kept-none, kept-day, 
 same-seen : {reply reply′ : Reply} {book book′ out out′ : List ℕ} → reply ≡ reply′ → book ≡ book′ → out ≡ out′
     → _≡_ {A = Seen} (record { reply = reply; book = book; out = out }) (record { reply = reply′; book = book′; out = out′ })
 same-seen p q r = rw (p, q, r)
-
-stands-book : {w : Desk} {p : Paper} → Stands w p → w .book ≡ p .book
-stands-book (rest n) = refl
-stands-book (busy n a) = refl
-
-stands-out : {w : Desk} {p : Paper} → Stands w p → w .out ≡ p .out
-stands-out (rest n) = refl
-stands-out (busy n a) = refl
 
 pub begins : (w : Desk) → w .state ≡ Closed → Stands w (begun w)
 begins w e = subst (λ (s : State). Stands (desk s (w .log) (w .counts) (w .book) (w .out)) (begun w)) (sym e) (rest refl)
@@ -91,7 +83,7 @@ left-book (rest n) = refl
 left-book (busy n a) = refl
 
 -- a day ended on a book that allows it
-end-ready : (log : List ℕ) (rs : List Record) (row book : List ℕ) (room : ℕ) → logFault log ≡ 0 → endRefusal log rs row book room ≡ 0 → Ready log book
+pub end-ready : (log : List ℕ) (rs : List Record) (row book : List ℕ) (room : ℕ) → logFault log ≡ 0 → endRefusal log rs row book room ≡ 0 → Ready log book
 unfolding endRefusal
 end-ready log rs row book room e f =
     let q = or-none (rowFault (dayIn log rs) row) _ (pick-zero _ 1 _ (lit< tt) f .1) in
@@ -152,7 +144,7 @@ fresh-is : (book : List ℕ) (rulebook : ℕ) → eqb (freshFault (length book) 
 unfolding freshBook bookOver offenceDays howMany lastOf
 fresh-is book rulebook e = sym (pick-yes _ _ _ _ e refl)
 
-holds-fresh : (h : History) (book : List ℕ) (rulebook : ℕ) → Holds h book
+pub holds-fresh : (h : History) (book : List ℕ) (rulebook : ℕ) → Holds h book
     → Holds (pick (eqb (freshFault (length book) rulebook) 0) (record { rulebook = rulebook; days = [] }) h) (freshBook book rulebook)
 holds-fresh h book rulebook k = go (eqb (freshFault (length book) rulebook) 0) refl
   where

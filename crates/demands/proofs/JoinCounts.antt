@@ -286,7 +286,7 @@ module _ (a b : ℕ) (t t′ : Tables) (j : Joined a b t t′) (some-a : 1 ≤ a
       ∙ some-cong _ _ (t .accounts)
       (λ k. ap₂ (λ (x y : Bool). x && y) (ap (λ (m : ℕ). eqb m g) (j .group k) ∙ join-other a b apart g (t .account k .group) na nb) (ap (λ (m : ℕ). eqb m 2) (j .kind k)))
 
-  family-joined : (place : ℕ) → familyOf t′ place ≡ familyOf t place
+  pub family-joined : (place : ℕ) → familyOf t′ place ≡ familyOf t place
   unfolding familyOf
   family-joined place = rw (j .rulebook, j .contract place) refl
 

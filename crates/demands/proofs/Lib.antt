@@ -5,7 +5,12 @@ pub mod CallLaws
 pub mod ListedLaws
 pub mod TotalLaws
 pub mod NumberLaws
+pub mod LogLaws
 pub mod Demand2
 pub mod JoinTables
 pub mod JoinCounts
+pub mod JoinFound
+pub mod JoinRun
+pub mod RestrictLaws
+pub mod Example
 pub mod Starred

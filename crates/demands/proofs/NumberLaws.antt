@@ -47,7 +47,7 @@ end-number : (fault found : ℕ) → endNumber (pick (eqb fault 0) (Done Closed 
 end-number fault found = number-of endNumber fault _ _ refl refl
 
 -- the refusal that the rules give to a call
-pub refusal : Paper → Course → Call → ℕ
+unfoldable pub refusal : Paper → Course → Call → ℕ
 refusal p course (makeBook rulebook) = freshFault (length (p .book)) rulebook
 refusal p course (askBook group kind family) = askFault (p .book) group kind family
 refusal p idle (openDay log) = handedFault log (p .book) (p .room)

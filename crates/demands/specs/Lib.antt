@@ -8,4 +8,5 @@ pub mod Demand2
 pub mod Join
 pub mod Restrictions
 pub mod Demand3
+pub mod Example
 pub mod Starred

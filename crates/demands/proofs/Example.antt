@@ -1,0 +1,58 @@
+-- The example of specs/Example is as it says: all of it is computed. Assumes nothing.
+use mathlib.Core.Path.{_≡_, refl}
+use mathlib.Core.Bool.{Bool, true, false}
+use native.Mathlib.Omega.{arith}
+use lib.Dec.{eqb}
+use Rattle.wire.specs.Choice.{pick}
+use Rattle.wire.specs.Places.{every, some, first}
+use Rattle.rules.specs.Choices.{byThree}
+use Rattle.rules.specs.Exemption.{known, exempt}
+use Rattle.rules.specs.Measure.{enough}
+use Rattle.rules.specs.Ladders.{family, rung, sanction}
+use Rattle.desk.specs.Counting.{accountOf, contractOf, hasAccount, groupOf, planFor, planOf, counted, countsFor}
+use Rattle.desk.specs.Offences.{familyOf}
+use Rattle.desk.specs.Findings.{memberOn}
+use Rattle.demands.specs.Counts.{howMany, timesOf, reachesOn, offence}
+use Rattle.demands.specs.Days.{offenceOn, offenceDays}
+use Rattle.demands.specs.Join.{Joined, joined}
+use Rattle.demands.specs.Restrictions.{sanctionOn, sanctions}
+use Rattle.demands.specs.Demand3.{InYear, none, more}
+use Rattle.demands.specs.Example.{tablesWith, ownTrade, dayOf, daysWith, threeAlone, threeOrFive, WhyThreeOrFive}
+
+-- an entry's group: the first is account 11's, the others are in 2
+group-joins : (first : Bool) → pick first 2 2 ≡ joined 1 2 (pick first 1 2)
+unfolding pick
+group-joins true = refl
+group-joins false = refl
+
+tables-join : Joined 1 2 (tablesWith 1) (tablesWith 2)
+unfolding tablesWith
+tables-join = record {
+  rulebook = refl;
+  contracts = refl;
+  contract = λ k. refl;
+  accounts = refl;
+  number = λ k. refl;
+  kind = λ k. refl;
+  group = λ k. group-joins (eqb k 0);
+}
+
+one-year : InYear 2024 (daysWith 1)
+unfolding daysWith dayOf
+one-year = more refl (more refl (more refl none))
+
+-- the four numbers
+numbers : (threeAlone 1 (daysWith 1) ≡ 1) × (threeAlone 2 (daysWith 2) ≡ 0) × (threeOrFive 1 (daysWith 1) ≡ 1) × (threeOrFive 2 (daysWith 2) ≡ 1)
+unfolding threeAlone threeOrFive daysWith dayOf tablesWith ownTrade sanctions sanctionOn offenceDays offenceOn offence reachesOn timesOf howMany memberOn familyOf countsFor counted planOf planFor groupOf hasAccount contractOf accountOf sanction rung family enough exempt known byThree first some every pick
+numbers = (refl, refl, refl, refl)
+
+pub why-three-or-five : WhyThreeOrFive
+why-three-or-five = record {
+  in-year = one-year;
+  joined = tables-join;
+  three-before = numbers .0;
+  three-after = numbers .1;
+  three-lost = λ h. omega (arith, numbers .0, numbers .1);
+  either-before = numbers .2;
+  either-after = numbers .3;
+}

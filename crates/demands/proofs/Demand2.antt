@@ -23,10 +23,11 @@ use Rattle.demands.specs.Counts.{howMany}
 use Rattle.demands.specs.Days.{offenceDays, lastOf, bookOver}
 use Rattle.demands.specs.Calls.{Call, makeBook, openDay, takeRecord, endDay, abandonDay, askBook, Reply, numberIn, Desk, Given, Gives, Ran, none, next}
 use Rattle.demands.specs.Paper.{Course, idle, during, Paper, Ruled, dayIn, endRefusal, endRuled, openRuled, takeRuled, rule, rules}
-use Rattle.demands.specs.Demand2.{Seen, seen, ruled, begun, CallsRuled, None, none as nothing, more, NeverChanged, NeverUnsound, FindingsListed, History, recorded, history, left, BookOfDays, TotalsCounted}
+use Rattle.demands.specs.Demand2.{Seen, seen, ruled, begun, CallsRuled, None, none as nothing, more, NeverChanged, NeverUnsound, FindingsListed, History, recorded, history, left, BookOfDays, TotalsCounted, LogsRuled}
 use Rattle.demands.proofs.CallLaws.{Stands, rest, busy, Same, step, stands-book, stands-out, desk, paper}
 use Rattle.demands.proofs.ListedLaws.{findings-list}
 use Rattle.demands.proofs.NumberLaws.{number-is, never-19, never-17}
+use Rattle.demands.proofs.LogLaws.{judges-ruled}
 use Rattle.demands.proofs.TotalLaws.{Ready, Kept, kept-none, kept-day, last-is, total-was, ready, ended-sound}
 
 -- ---- any list of calls
@@ -127,7 +128,7 @@ never-unsound w cs gs e good r = all (begins w e) good r
         more (λ q. never-17 p (p .course) c good (sym (number-is p (p .course) c) ∙ ap numberIn (sym (t .reply)) ∙ q)) (all (t .after) (sound-step s good c) r)
 
 -- ---- totals
-one-of : (rulebook : ℕ) → (rulebook ≡ 1) ⊎ (rulebook ≡ 2) → within 1 2 rulebook ≡ true
+pub one-of : (rulebook : ℕ) → (rulebook ≡ 1) ⊎ (rulebook ≡ 2) → within 1 2 rulebook ≡ true
 one-of rulebook (inl e) = rw e
 one-of rulebook (inr e) = rw e
 
@@ -195,3 +196,7 @@ totals-counted w rulebook cs gs e one b r l h =
     let k = fresh-run w rulebook cs gs e one b r in
     let days = history (begun w) (record { rulebook = rulebook; days = [] }) cs .days in
     total-was _ _ _ k l h ∙ ap (λ (n : ℕ). offenceDays (year n) l days) (sym (last-is _ _ _ k))
+
+-- ---- day logs
+pub logs-ruled : LogsRuled
+logs-ruled = judges-ruled

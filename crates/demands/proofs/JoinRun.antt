@@ -15,7 +15,7 @@ use Rattle.wire.proofs.PlaceLaws.{count-le}
 use Rattle.wire.proofs.BufferLaws.{length-put}
 use Rattle.calendar.specs.Dates.{year}
 use Rattle.book.specs.Fresh.{freshFault, freshBook}
-use Rattle.book.specs.Ask.{askFault}
+use Rattle.book.specs.Ask.{inRange, askFault}
 use Rattle.book.specs.Layout.{rulebookOf, lastDate, totalAt}
 use Rattle.book.specs.Sound.{sound}
 use Rattle.book.proofs.BookLaws.{sound-facts}
@@ -33,7 +33,7 @@ use Rattle.demands.specs.Counts.{howMany, timesOn, offence}
 use Rattle.demands.specs.Days.{Ended, lastOf, offenceOn, offenceDays, bookOver}
 use Rattle.demands.specs.Calls.{Call, makeBook, openDay, takeRecord, endDay, abandonDay, askBook}
 use Rattle.demands.specs.Paper.{Course, idle, during, Paper, dayIn, takeNumber, endRefusal, resting, at, openRuled, takeRuled, endRuled, rule}
-use Rattle.demands.specs.Demand2.{History, recorded}
+use Rattle.demands.specs.Demand2.{History, recorded, history}
 use Rattle.demands.specs.Join.{joinLog, Joined}
 use Rattle.demands.specs.Demand3.{joinCall, DaysJoined, none, more}
 use Rattle.demands.proofs.CallLaws.{paper}
@@ -66,8 +66,17 @@ recorded-end : (p : Paper) (log : List ℕ) (rs : List Record) (row : List ℕ) 
 unfolding recorded
 recorded-end p log rs row h e = pick-yes _ _ _ _ (eq-eqb _ 0 e) refl
 
+made-history : (rulebook len : ℕ) (h : History) → freshFault len rulebook ≡ 0
+    → _≡_ {A = History} (record { rulebook = rulebook; days = [] }) (pick (eqb (freshFault len rulebook) 0) (record { rulebook = rulebook; days = [] }) h)
+made-history rulebook len h e = pick-yes _ _ _ _ (eq-eqb _ 0 e) refl
+
+-- every call of a list is accepted
+unfoldable pub AcceptedBy : Paper → List Call → Type 0
+AcceptedBy p [] = Unit {0}
+AcceptedBy p (c ∷ cs) = (refusal p (p .course) c ≡ 0) × AcceptedBy (rule p (p .course) c .after) cs
+
 -- ---- the days of the two runs
-last-same : {a b rulebook : ℕ} {days days′ : List Ended} → DaysJoined a b rulebook days days′ → lastOf days′ ≡ lastOf days
+pub last-same : {a b rulebook : ℕ} {days days′ : List Ended} → DaysJoined a b rulebook days days′ → lastOf days′ ≡ lastOf days
 unfolding lastOf
 last-same none = refl
 last-same (more date records tables others gone rest) = date
@@ -100,7 +109,7 @@ module _ (a b rulebook : ℕ) (days days′ : List Ended) (book book′ : List �
       ap (λ (s : Bool). f s (rulebookOf book′) (lastDate book′)) (k′ .good ∙ sym (k .good))
       ∙ ap₂ (f (sound book)) (book-rulebook rulebook days′ book′ k′ ∙ sym (book-rulebook rulebook days book k)) dates-same ∙ e
 
-  total-same : (l : ℕ) → l < 6144 → 1 ≤ a → (a ≡ b → ⊥) → (groupAt l ≡ a → ⊥) → (groupAt l ≡ b → ⊥) → totalAt book′ l ≡ totalAt book l
+  pub total-same : (l : ℕ) → l < 6144 → 1 ≤ a → (a ≡ b → ⊥) → (groupAt l ≡ a → ⊥) → (groupAt l ≡ b → ⊥) → totalAt book′ l ≡ totalAt book l
   total-same l h some-a apart not-a not-b =
       total-was rulebook days′ book′ k′ l h ∙ ap (λ (n : ℕ). offenceDays (year n) l days′) (last-same j)
       ∙ days-other a b rulebook (year (lastOf days)) l some-a apart not-a not-b j ∙ sym (total-was rulebook days book k l h)
@@ -244,3 +253,60 @@ module _ (a b : ℕ) (some-a : 1 ≤ a) (some-b : 1 ≤ b) (most-b : b ≤ 128) 
               out = rw (out-length (tablesOf (joinLog a b log)) rs (headerOf (joinLog a b log) .date) book′ out′ (s .out)) (s .out);
             });
       }
+
+  -- a fresh book
+  fresh-again : (course course′ : Course) (book out book′ out′ : List ℕ) (room room′ : ℕ) (h h′ : History) (rulebook : ℕ)
+      → Beside a b (paper course book out room) (paper course′ book′ out′ room′) h h′ → freshFault (length book) rulebook ≡ 0
+      → Again a b (paper course book out room) (paper course′ book′ out′ room′) h h′ (makeBook rulebook)
+  unfolding refusal rule recorded
+  fresh-again course course′ book out book′ out′ room room′ h h′ rulebook s e =
+      let long : length book′ ≡ length book = sound-facts book′ (s .kept′ .good) .long ∙ sym (sound-facts book (s .kept .good) .long) in
+      let z : freshFault (length book′) rulebook ≡ 0 = ap (λ (n : ℕ). freshFault n rulebook) long ∙ e in
+      let q = made-history rulebook (length book) h e in
+      let q′ = made-history rulebook (length book′) h′ z in record {
+        number = z;
+        after = move refl refl q q′ (record {
+          course = s .course;
+          kept = subst (λ (x : History). Holds x (freshBook book rulebook)) (sym q) (holds-fresh h book rulebook (s .kept));
+          kept′ = subst (λ (x : History). Holds x (freshBook book′ rulebook)) (sym q′) (holds-fresh h′ book′ rulebook (s .kept′));
+          same = refl;
+          days = none;
+          room = s .room;
+          out = s .out;
+        });
+      }
+
+  ask-again : (book book′ : List ℕ) (group kind family : ℕ) → sound book ≡ true → sound book′ ≡ true → askFault book group kind family ≡ 0
+      → askFault book′ group kind family ≡ 0
+  unfolding askFault
+  ask-again book book′ group kind family good good′ e = ap (λ (t : Bool). pick (not t) 17 (pick (not (inRange group kind family)) 21 0)) (good′ ∙ sym good) ∙ e
+
+  -- any call
+  again : (course course′ : Course) (book out book′ out′ : List ℕ) (room room′ : ℕ) (h h′ : History) → Twin a b course course′
+      → Beside a b (paper course book out room) (paper course′ book′ out′ room′) h h′ → (c : Call) → refusal (paper course book out room) course c ≡ 0
+      → Again a b (paper course book out room) (paper course′ book′ out′ room′) h h′ c
+  unfolding refusal rule recorded
+  again course course′ book out book′ out′ room room′ h h′ t s (makeBook rulebook) e = fresh-again course course′ book out book′ out′ room room′ h h′ rulebook s e
+  again course course′ book out book′ out′ room room′ h h′ t s (askBook group kind family) e =
+      record { number = ask-again book book′ group kind family (s .kept .good) (s .kept′ .good) e; after = s }
+  again idle idle book out book′ out′ room room′ h h′ both-idle s (openDay log) e = open-again book out book′ out′ room room′ h h′ log s e
+  again idle idle book out book′ out′ room room′ h h′ both-idle s (takeRecord row) e = absurd (omega arith)
+  again idle idle book out book′ out′ room room′ h h′ both-idle s (endDay row) e = absurd (omega arith)
+  again idle idle book out book′ out′ room room′ h h′ both-idle s abandonDay e = absurd (omega arith)
+  again (during log rs) _ book out book′ out′ room room′ h h′ (both-open g) s (openDay other) e = absurd (omega arith)
+  again (during log rs) _ book out book′ out′ room room′ h h′ (both-open g) s (takeRecord row) e = take-again log rs book out book′ out′ room room′ h h′ row g s e
+  again (during log rs) _ book out book′ out′ room room′ h h′ (both-open g) s (endDay row) e = end-again log rs book out book′ out′ room room′ h h′ row g s e
+  again (during log rs) _ book out book′ out′ room room′ h h′ (both-open g) s abandonDay e =
+      record { number = refl; after = record { course = both-idle; kept = s .kept; kept′ = s .kept′; same = s .same; days = s .days; room = s .room; out = s .out } }
+
+  -- any list of calls
+  pub runs-again : (p p′ : Paper) (h h′ : History) (cs : List Call) → Beside a b p p′ h h′ → AcceptedBy p cs
+      → AcceptedBy p′ (map (joinCall a b) cs)
+      × (history p′ h′ (map (joinCall a b) cs) .rulebook ≡ history p h cs .rulebook)
+      × DaysJoined a b (history p h cs .rulebook) (history p h cs .days) (history p′ h′ (map (joinCall a b) cs) .days)
+  unfolding AcceptedBy history
+  runs-again p p′ h h′ [] s y = (tt, s .same, s .days)
+  runs-again p p′ h h′ (c ∷ cs) s y =
+      let g = again (p .course) (p′ .course) (p .book) (p .out) (p′ .book) (p′ .out) (p .room) (p′ .room) h h′ (s .course) s c (y .0) in
+      let r = runs-again _ _ _ _ cs (g .after) (y .1) in
+      ((g .number, r .0), r .1, r .2)

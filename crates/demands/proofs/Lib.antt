@@ -13,4 +13,5 @@ pub mod JoinFound
 pub mod JoinRun
 pub mod RestrictLaws
 pub mod Example
+pub mod Demand3
 pub mod Starred

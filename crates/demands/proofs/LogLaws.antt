@@ -212,5 +212,5 @@ judges-all (one-log {book = book} {log = log} {logs = logs} j r) =
     ap₂ {C = List Judged} (λ x xs. x ∷ xs) (same-judged (judges book log j .same) (printed-is book log j) (file-is book log j))
     (judges-all r ∙ ap (λ (b : List ℕ). ruledLogs b logs) (file-is book log j))
 
-pub logs-ruled : LogsRuled
-logs-ruled book logs js r = judges-all r
+pub judges-ruled : LogsRuled
+judges-ruled book logs js r = judges-all r

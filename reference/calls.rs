@@ -83,7 +83,7 @@ fn check_start<'a>(
     }
 }
 
-fn cell(group: usize, kind: usize, place: usize) -> usize {
+pub fn cell(group: usize, kind: usize, place: usize) -> usize {
     ((group - 1) * KINDS + (kind - 1)) * PLACES + place
 }
 

@@ -1,4 +1,5 @@
-//! The whole check: cases of a fixed and of a fresh seed, the large logs, the failing write-backs, the tables.
+//! The whole check: cases and joined years of a fixed and of a fresh seed, the large logs, the failing write-backs,
+//! newbook, the tables.
 use crate::cases::{BookFile, Case, Input};
 use crate::clerk;
 use crate::clerk_edges::{clerk_edges, worked_example, WORKED_EXAMPLE_TEXT};
@@ -6,14 +7,19 @@ use crate::compare::{compare_all, Bench, Difference};
 use crate::edges::edges;
 use crate::failing::{failing, Stage};
 use crate::generate::random_case;
+use crate::join_years::{check_years, Seen};
 use crate::large::large_cases;
+use crate::newbook::newbook;
 use crate::random::Random;
 use crate::run::Programs;
 use crate::script_edges::script_edges;
+use crate::years::{some_year, Year};
+use std::fmt::Display;
 use std::path::Path;
 use std::process::ExitCode;
 
 const RANDOM_CASES: usize = 3_000;
+const YEARS: usize = 64;
 const SHOWN: usize = 5;
 
 #[derive(Default)]
@@ -63,6 +69,46 @@ fn run_seed(label: &str, seed: u64, programs: &Programs, folder: &Path, score: &
     score.add(reached, missed);
 }
 
+/// Demand 3: each year is a case, and so is each thing that must come up in some year.
+fn run_joins(seed: u64, bench: &Bench, score: &mut Score) {
+    let years: Vec<Year> = (0..YEARS).map(|i| some_year(&mut Random::of_case(seed, 100_000 + i as u64), i)).collect();
+    let (seen, differences) = check_years(bench, &years);
+    println!("\n{} seed {seed}: two groups joined in {} years", bench.label, years.len());
+    print_seen(&seen);
+    println!("{} years differ", differences.len());
+    show(&differences, bench.folder, bench.label);
+    score.add(years.len() - differences.len(), differences.len());
+    let needed = [
+        ("a restriction of either group", seen.with_restriction),
+        ("a joined total past 3", seen.past_third),
+        ("an offence gained by the join", seen.days_gained),
+        ("a trade between the two groups that counts", seen.between),
+        ("a trade between the two groups that is exempt", seen.exempt_between),
+        ("a restriction lost by counting sanction 3 alone", seen.lost.len()),
+    ];
+    for (what, times) in needed {
+        if times == 0 {
+            println!("NEVER SEEN: {what}");
+        }
+        score.add((times > 0) as usize, (times == 0) as usize);
+    }
+}
+
+fn print_seen(seen: &Seen) {
+    println!("{} years passed, of {} days; {} of them by calls too", seen.years, seen.days, seen.replayed);
+    println!("{} findings of the two groups, {} of the joined group", seen.findings, seen.joined_findings);
+    println!(
+        "{} years with restrictions of either, {} with a joined total past 3",
+        seen.with_restriction, seen.past_third
+    );
+    println!("{} trades between the two count when joined, {} are exempt", seen.between, seen.exempt_between);
+    println!("{} days gained an offence by the join", seen.days_gained);
+    println!("{} years would lose a restriction if sanction 3 alone were one", seen.lost.len());
+    if let Some((i, example)) = seen.lost.first() {
+        println!("  as year {i}, {example}");
+    }
+}
+
 /// The reference against document 01's own example.
 fn check_worked_example(score: &mut Score) {
     let case = worked_example();
@@ -78,9 +124,9 @@ fn check_worked_example(score: &mut Score) {
     }
 }
 
-fn check_failing(stage: &Stage, score: &mut Score) {
-    println!("\nthe write-back made to fail");
-    for (name, result) in failing(stage) {
+fn check_each(title: &str, results: Vec<(impl Display, Result<(), String>)>, score: &mut Score) {
+    println!("\n{title}");
+    for (name, result) in results {
         match result {
             Ok(()) => {
                 println!("ok       {name}");
@@ -105,7 +151,12 @@ pub fn check(seeds: [&str; 2], root: &Path, before: &[&str]) -> ExitCode {
     check_worked_example(&mut score);
     run_seed("fixed", fixed, &programs, folder, &mut score);
     run_seed("fresh", fresh, &programs, folder, &mut score);
-    check_failing(&Stage { programs: &programs, folder }, &mut score);
+    for (label, seed) in [("join-fixed", fixed), ("join-fresh", fresh)] {
+        run_joins(seed, &Bench { programs: &programs, folder, label }, &mut score);
+    }
+    let stage = Stage { programs: &programs, folder };
+    check_each("the write-back made to fail", failing(&stage), &mut score);
+    check_each("a fresh book by newbook", newbook(&stage), &mut score);
     println!("\nthe fresh seed again: reference/check {fresh}");
     println!("{} passed, {} failed", score.passed, score.failed);
     if score.failed == 0 {

@@ -1,13 +1,13 @@
 //! Runs cases on the reference and on the programs, and compares.
 use crate::cases::{BookFile, Case, Feed, Input};
 use crate::clerk::{self, Stop};
+use crate::parallel::in_parallel;
 use crate::replay;
 use crate::run::{command, run, Programs};
 use crate::tally::Tally;
 use std::fs;
 use std::io;
 use std::path::Path;
-use std::sync::atomic::{AtomicUsize, Ordering};
 use std::sync::Mutex;
 
 pub struct Difference {
@@ -23,30 +23,17 @@ pub struct Bench<'a> {
     pub label: &'a str,
 }
 
-/// All cases, on as many threads as there are processors, each in a folder of its own.
+/// All cases, several at a time.
 pub fn compare_all(bench: &Bench, cases: &[Case]) -> (Tally, Vec<Difference>) {
-    let next = AtomicUsize::new(0);
     let shared = Mutex::new((Tally::default(), Vec::new()));
-    let threads = std::thread::available_parallelism().map_or(1, |n| n.get());
-    std::thread::scope(|scope| {
-        for thread in 0..threads {
-            let (next, shared) = (&next, &shared);
-            scope.spawn(move || {
-                let scratch = bench.folder.join(format!("scratch-{thread}"));
-                loop {
-                    let i = next.fetch_add(1, Ordering::Relaxed);
-                    let Some(case) = cases.get(i) else { break };
-                    let mut tally = Tally::default();
-                    let result = compare(bench.programs, &scratch, case, &mut tally);
-                    let mut shared = shared.lock().unwrap();
-                    shared.0.add(&tally);
-                    if let Err(what) = result {
-                        keep(bench, i, case, &what);
-                        shared.1.push(Difference { case: i, name: case.name.clone(), what });
-                    }
-                }
-                let _ = fs::remove_dir_all(&scratch);
-            });
+    in_parallel(bench.folder, cases.len(), |i, scratch| {
+        let mut tally = Tally::default();
+        let result = compare(bench.programs, scratch, &cases[i], &mut tally);
+        let mut shared = shared.lock().unwrap();
+        shared.0.add(&tally);
+        if let Err(what) = result {
+            keep(bench, i, &cases[i], &what);
+            shared.1.push(Difference { case: i, name: cases[i].name.clone(), what });
         }
     });
     let (tally, mut differences) = shared.into_inner().unwrap();
@@ -186,21 +173,27 @@ fn count_stop(tally: &mut Tally, stop: Option<Stop>) {
     }
 }
 
-pub fn compare_log(programs: &Programs, scratch: &Path, text: &str, log: &[u8], feed: Feed) -> Result<(), String> {
-    let words = programs.words(&programs.clerk);
-    let output = run(command(&words, scratch), scratch, log, feed).map_err(|e| e.to_string())?;
-    let given = String::from_utf8_lossy(&output.stdout);
-    if given != text {
-        return Err(format!("reference {:?}, program {:?}", shortened(text), shortened(&given)));
+fn compare_log(programs: &Programs, scratch: &Path, text: &str, log: &[u8], feed: Feed) -> Result<(), String> {
+    let given = run_clerk(programs, scratch, log, feed)?;
+    if given == text {
+        return Ok(());
     }
-    if !output.status.success() || !output.stderr.is_empty() {
-        let error = String::from_utf8_lossy(&output.stderr).into_owned();
-        return Err(format!("{}, standard error {error:?}", output.status));
-    }
-    Ok(())
+    Err(format!("reference {:?}, program {:?}", shortened(text), shortened(&given)))
 }
 
-fn shortened(text: &str) -> String {
+/// What the clerk prints of a log over the book in the folder, where it does not fail.
+pub fn run_clerk(programs: &Programs, scratch: &Path, log: &[u8], feed: Feed) -> Result<String, String> {
+    let words = programs.words(&programs.clerk);
+    let output = run(command(&words, scratch), scratch, log, feed).map_err(|e| e.to_string())?;
+    let given = String::from_utf8_lossy(&output.stdout).into_owned();
+    if !output.status.success() || !output.stderr.is_empty() {
+        let error = String::from_utf8_lossy(&output.stderr).into_owned();
+        return Err(format!("{}, printed {:?}, standard error {error:?}", output.status, shortened(&given)));
+    }
+    Ok(given)
+}
+
+pub fn shortened(text: &str) -> String {
     text.chars().take(300).collect()
 }
 

@@ -5,15 +5,13 @@ use crate::cases::{Feed, Input};
 use crate::clerk;
 use crate::clerk_edges::worked_example;
 use crate::compare::same_file;
+use crate::permissions::held_by_permissions;
 use crate::run::{command, run, run_as_set, Programs};
 use std::fs::{self, OpenOptions};
 use std::io;
-use std::os::unix::fs::{MetadataExt, PermissionsExt};
-use std::os::unix::process::CommandExt;
+use std::os::unix::fs::PermissionsExt;
 use std::path::{Path, PathBuf};
 use std::process::{Command, Output, Stdio};
-
-const NOBODY: u32 = 65_534;
 
 /// The worked example's book and log, and what is printed of them.
 struct Example {
@@ -96,69 +94,48 @@ pub fn failing(stage: &Stage) -> Vec<(&'static str, Result<(), String>)> {
     tests.map(|(name, test)| (name, test(stage, &example))).into()
 }
 
-fn text(error: io::Error) -> String {
+pub fn text(error: io::Error) -> String {
     error.to_string()
 }
 
-/// A superuser is not held by permissions: then the clerk runs as another user. That user cannot build, so the program
-/// is started without `bin/run` and its exit status says nothing.
+/// The clerk as another user is started without `bin/run`, and its exit status says nothing.
 fn no_permission(stage: &Stage, example: &Example) -> Result<(), String> {
-    let is_superuser = fs::metadata("/proc/self").map_err(text)?.uid() == 0;
-    let by_run = (stage.programs.run_clerk(), stage.folder.to_path_buf());
-    let (words, parent) = if is_superuser { open_to_nobody(stage)? } else { by_run };
-    let folder = folder_with_book(&parent, "no-permission", example).map_err(text)?;
-    fs::set_permissions(&folder, fs::Permissions::from_mode(0o555)).map_err(text)?;
-    let mut command = command(&words, &folder);
-    if is_superuser {
-        command.uid(NOBODY).gid(NOBODY);
-    }
-    let output = run(command, &folder, &example.log, Feed::Pipe).map_err(text)?;
-    fs::set_permissions(&folder, fs::Permissions::from_mode(0o755)).map_err(text)?;
-    let judged = if is_superuser { said_and_whole } else { failed_whole };
+    let held = held_by_permissions(stage, "clerk", &stage.programs.clerk)?;
+    let folder = folder_with_book(&held.parent, "no-permission", example).map_err(text)?;
+    let output = held.run_unwritable(&folder, &[], &example.log)?;
+    let judged = if held.as_nobody { said_and_whole } else { failed_whole };
     let result = judged(&output, &folder, example).and(nothing_beside(&folder)).and(printed(&output, example));
-    if parent != stage.folder {
-        fs::remove_dir_all(&parent).map_err(text)?;
-    }
+    held.clear(stage)?;
     result
 }
 
-/// Where the other user cannot reach our folders, a copy of the program in the system's folder for such things.
-fn open_to_nobody(stage: &Stage) -> Result<(Vec<String>, PathBuf), String> {
-    let (words, folder) = (stage.programs.words(&stage.programs.clerk), stage.folder.to_path_buf());
-    let mut probe = Command::new("/bin/sh");
-    probe.args(["-c", "test -x \"$0\" && cd \"$1\""]).arg(&stage.programs.clerk).arg(&folder).uid(NOBODY).gid(NOBODY);
-    if probe.status().map_err(text)?.success() {
-        return Ok((words, folder));
-    }
-    let elsewhere = std::env::temp_dir().join(format!("reference-{}", std::process::id()));
-    fs::create_dir_all(&elsewhere).map_err(text)?;
-    fs::set_permissions(&elsewhere, fs::Permissions::from_mode(0o755)).map_err(text)?;
-    let copy = elsewhere.join("clerk");
-    fs::copy(&stage.programs.clerk, &copy).map_err(text)?;
-    Ok((stage.programs.words(&copy), elsewhere))
-}
-
-/// A limit on file sizes stands for a disk that fills: 8 blocks are less than a book.
+/// A limit on file sizes stands for a disk that fills.
 fn full_disk(stage: &Stage, example: &Example) -> Result<(), String> {
     let folder = folder_with_book(stage.folder, "full-disk", example).map_err(text)?;
-    let output =
-        run(through_shell(stage, &folder, "trap '' XFSZ; ulimit -f 8; exec \"$@\""), &folder, &example.log, Feed::Pipe)
-            .map_err(text)?;
+    let output = run(through_shell(stage, &folder, FULL_DISK), &folder, &example.log, Feed::Pipe).map_err(text)?;
     failed_whole(&output, &folder, example)?;
     nothing_beside(&folder)?;
     printed(&output, example)
 }
 
 fn through_shell(stage: &Stage, folder: &Path, line: &str) -> Command {
-    let mut words: Vec<String> = ["/bin/sh", "-c", line, "sh"].map(String::from).into();
-    words.extend(stage.programs.run_clerk());
-    command(&words, folder)
+    command(&shell_words(line, stage.programs.through_run("clerk")), folder)
 }
+
+/// A line of shell around the words of a program, which it has as "$@".
+pub fn shell_words(line: &str, program: Vec<String>) -> Vec<String> {
+    let mut words: Vec<String> = ["/bin/sh", "-c", line, "sh"].map(String::from).into();
+    words.extend(program);
+    words
+}
+
+/// A limit of 8 blocks on files: less than a book.
+pub const FULL_DISK: &str = "trap '' XFSZ; ulimit -f 8; exec \"$@\"";
 
 fn folder_beside(stage: &Stage, example: &Example) -> Result<(), String> {
     let folder = folder_with_book(stage.folder, "folder-beside", example).map_err(text)?;
     fs::create_dir(folder.join("book.axb.new")).map_err(text)?;
-    let words = stage.programs.run_clerk();
+    let words = stage.programs.through_run("clerk");
     let output = run(command(&words, &folder), &folder, &example.log, Feed::Pipe).map_err(text)?;
     failed_whole(&output, &folder, example)?;
     printed(&output, example)
@@ -168,7 +145,7 @@ fn folder_beside(stage: &Stage, example: &Example) -> Result<(), String> {
 fn full_output(stage: &Stage, example: &Example, is_good: bool) -> Result<(), String> {
     let folder = folder_with_book(stage.folder, "full-output", example).map_err(text)?;
     let full = OpenOptions::new().write(true).open("/dev/full").map_err(text)?;
-    let words = stage.programs.run_clerk();
+    let words = stage.programs.through_run("clerk");
     let mut command = command(&words, &folder);
     command.stdout(full).stderr(Stdio::piped());
     let log = if is_good { &example.log[..] } else { &example.log[..30] };
@@ -199,7 +176,7 @@ fn second_try(stage: &Stage, example: &Example) -> Result<(), String> {
 }
 
 fn run_well(stage: &Stage, folder: &Path, example: &Example) -> Result<(), String> {
-    let words = stage.programs.run_clerk();
+    let words = stage.programs.through_run("clerk");
     let output = run(command(&words, folder), folder, &example.log, Feed::Pipe).map_err(text)?;
     printed(&output, example)?;
     let after = build::book(1, 20240305, &[build::Total { group: 3, kind: 1, family: 0, total: 2 }]);

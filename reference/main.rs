@@ -2,8 +2,9 @@
 //!
 //! The reading: `dates`, `rules`, `tables`, `book`, `refusal`, `calls` (the six calls), `clerk`, `replay`.
 //! The cases: `build` (data and its bytes), `days`, `scene` and `faults`; `edges`, `script_edges`, `clerk_edges`,
-//! `generate` (random ones), `large` (a million records).
-//! The check: `run`, `compare`, `tally` (what was reached), `failing` (the write-back made to fail), `check`; `timing`.
+//! `generate` (random ones), `large` (a million records); `years`, in which `join` joins two groups (demand 3).
+//! The check: `run` (with a time limit), `parallel`, `compare`, `tally` (what was reached), `join_years`, `failing`
+//! (the write-back made to fail) with `permissions`, `newbook`, `check`; `timing`.
 mod book;
 mod build;
 mod calls;
@@ -18,7 +19,12 @@ mod edges;
 mod failing;
 mod faults;
 mod generate;
+mod join;
+mod join_years;
 mod large;
+mod newbook;
+mod parallel;
+mod permissions;
 mod random;
 mod refusal;
 mod replay;
@@ -29,6 +35,7 @@ mod script_edges;
 mod tables;
 mod tally;
 mod timing;
+mod years;
 
 use std::io::{self, Read, Write};
 use std::path::Path;

@@ -181,7 +181,7 @@ impl Machine {
             Err(refusal) => (refusal.number(), String::new()),
         };
         let book = checksum(self.book.iter().copied());
-        let counts = checksum(self.counts.iter().flat_map(|count| count.to_le_bytes()));
+        let counts = counts_checksum(&self.counts);
         let findings = checksum(self.findings.iter().copied());
         writeln!(text, "{letter} {number} {} {book} {counts} {findings}{more}", shown(&self.state)).unwrap();
     }
@@ -193,6 +193,10 @@ fn shown(state: &State) -> String {
     };
     let Header { rulebook, version, date, contracts, accounts, filler } = header;
     format!("open {rulebook} {version} {date} {contracts} {accounts} {filler} {taken}")
+}
+
+pub fn counts_checksum(counts: &[u32]) -> u64 {
+    checksum(counts.iter().flat_map(|count| count.to_le_bytes()))
 }
 
 fn checksum(bytes: impl Iterator<Item = u8>) -> u64 {

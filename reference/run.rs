@@ -1,15 +1,29 @@
-//! Starts a program in a folder, feeds it and waits for it.
+//! Starts a program in a folder, feeds it and waits for it, but not for ever.
 use crate::cases::Feed;
 use std::fs::{self, File};
-use std::io::{self, Write};
+use std::io::{self, Read, Write};
+use std::os::unix::process::CommandExt;
 use std::path::{Path, PathBuf};
-use std::process::{Command, Output, Stdio};
+use std::process::{Child, Command, Output, Stdio};
+use std::sync::atomic::{AtomicUsize, Ordering};
+use std::sync::mpsc::{self, Receiver};
+use std::thread;
+use std::time::{Duration, Instant};
+
+/// A program that has not stopped by then hangs, and its case has failed. The longest here takes seconds.
+const LIMIT: Duration = Duration::from_secs(120);
+/// After so many hangs nothing more is started: a program that always hangs does not hold the check up for days.
+const MOST_HANGS: usize = 3;
+static HANGS: AtomicUsize = AtomicUsize::new(0);
+/// More than any program here prints: one that prints without end does not fill the memory.
+const MOST_PRINTED: u64 = 1 << 26;
 
 /// How the programs are started: directly, or under an emulator whose words stand before them.
 #[derive(Clone)]
 pub struct Programs {
     pub before: Vec<String>,
     pub clerk: PathBuf,
+    pub newbook: PathBuf,
     pub replay: PathBuf,
     /// `bin/run`, which builds where needed and gives the exit status.
     pub run: PathBuf,
@@ -20,13 +34,15 @@ impl Programs {
         Programs {
             before: before.iter().map(|word| word.to_string()).collect(),
             clerk: root.join("target/bin/clerk"),
+            newbook: root.join("target/bin/newbook"),
             replay: root.join("target/bin/replay"),
             run: root.join("bin/run"),
         }
     }
 
-    pub fn run_clerk(&self) -> Vec<String> {
-        vec![self.run.display().to_string(), "clerk".to_string()]
+    /// The words that start a program by its name through `bin/run`.
+    pub fn through_run(&self, name: &str) -> Vec<String> {
+        vec![self.run.display().to_string(), name.to_string()]
     }
 
     /// The words that start a program.
@@ -54,23 +70,82 @@ pub fn run_as_set(command: &mut Command, folder: &Path, input: &[u8], feed: Feed
     if let Feed::File = feed {
         let path = folder.join("log");
         fs::write(&path, input)?;
-        let child = command.stdin(File::open(&path)?).spawn()?;
-        let output = child.wait_with_output();
+        let output = run_to_end(command.stdin(File::open(&path)?));
         fs::remove_file(&path)?;
         return output;
     }
-    let mut child = command.stdin(Stdio::piped()).spawn()?;
+    let mut child = start(command.stdin(Stdio::piped()))?;
     let mut pipe = child.stdin.take().unwrap();
-    std::thread::scope(|scope| {
-        scope.spawn(move || {
-            for piece in pieces(input, feed) {
-                if pipe.write_all(piece).is_err() {
-                    break;
-                }
+    let input = input.to_vec();
+    thread::spawn(move || {
+        for piece in pieces(&input, feed) {
+            if pipe.write_all(piece).is_err() {
+                break;
             }
-        });
-        child.wait_with_output()
-    })
+        }
+    });
+    finish(child)
+}
+
+/// Runs it on the standard input that it has.
+pub fn run_to_end(command: &mut Command) -> io::Result<Output> {
+    finish(start(command)?)
+}
+
+/// Every program is started here, as the head of a process group of its own.
+fn start(command: &mut Command) -> io::Result<Child> {
+    if HANGS.load(Ordering::Relaxed) >= MOST_HANGS {
+        return Err(io::Error::other("not started, as the programs before it hang"));
+    }
+    command.process_group(0).spawn()
+}
+
+fn finish(mut child: Child) -> io::Result<Output> {
+    match output_before(&mut child, Instant::now() + LIMIT)? {
+        Some(output) => Ok(output),
+        None => {
+            HANGS.fetch_add(1, Ordering::Relaxed);
+            stop(&mut child)?;
+            Err(io::Error::other(format!("it hangs: stopped after {} s", LIMIT.as_secs())))
+        }
+    }
+}
+
+/// What the child printed and how it ended; nothing where it is still at it when the time is up.
+fn output_before(child: &mut Child, deadline: Instant) -> io::Result<Option<Output>> {
+    let (stdout, stderr) = (gather(child.stdout.take()), gather(child.stderr.take()));
+    let left = || deadline.saturating_duration_since(Instant::now());
+    let (Ok(stdout), Ok(stderr)) = (stdout.recv_timeout(left()), stderr.recv_timeout(left())) else {
+        return Ok(None);
+    };
+    let (stdout, stderr) = (stdout?, stderr?);
+    // it has closed both, so it has ended or is about to
+    while !left().is_zero() {
+        if let Some(status) = child.try_wait()? {
+            return Ok(Some(Output { status, stdout, stderr }));
+        }
+        thread::sleep(Duration::from_micros(50));
+    }
+    Ok(None)
+}
+
+/// All that comes out of the pipe, read aside; no bytes where there is no pipe.
+fn gather(pipe: Option<impl Read + Send + 'static>) -> Receiver<io::Result<Vec<u8>>> {
+    let (sender, receiver) = mpsc::channel();
+    thread::spawn(move || {
+        let mut bytes = Vec::new();
+        let result = pipe.map_or(Ok(0), |pipe| pipe.take(MOST_PRINTED).read_to_end(&mut bytes));
+        // nobody listens any more where the time was up
+        let _ = sender.send(result.map(|_| bytes));
+    });
+    receiver
+}
+
+/// Ends the child and what it started itself, which is in its group.
+fn stop(child: &mut Child) -> io::Result<()> {
+    let group = format!("-{}", child.id());
+    Command::new("/bin/sh").args(["-c", "kill -s KILL -- \"$0\"", &group]).status()?;
+    child.wait().map(drop)
 }
 
 fn pieces(input: &[u8], feed: Feed) -> Box<dyn Iterator<Item = &[u8]> + '_> {

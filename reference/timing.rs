@@ -1,7 +1,7 @@
 //! The clerk here and the clerk given, one after the other on the same log, several times.
 use crate::large::million_log;
 use crate::random::Random;
-use crate::run::command;
+use crate::run::{command, run_to_end};
 use std::fs::{self, File};
 use std::io;
 use std::path::Path;
@@ -16,7 +16,7 @@ fn seconds(words: &[String], folder: &Path, book: &[u8]) -> io::Result<(f64, Vec
     let mut command = command(words, folder);
     command.stdin(File::open(folder.join("log"))?).stdout(Stdio::piped());
     let start = Instant::now();
-    let output = command.spawn()?.wait_with_output()?;
+    let output = run_to_end(&mut command)?;
     let seconds = start.elapsed().as_secs_f64();
     if !output.status.success() {
         return Err(io::Error::other(format!("{} gives {}", words[0], output.status)));

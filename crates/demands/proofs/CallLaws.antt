@@ -1,5 +1,5 @@
 -- Each call on its own: where the desk stands as the paper does, it gives what the paper says and stands so again. Assumes nothing.
-use mathlib.Core.Path.{_≡_, refl, sym, ap, _∙_}
+use mathlib.Core.Path.{_≡_, refl, _∙_}
 use mathlib.Core.Bool.{Bool, true, false}
 use mathlib.Core.List.{List, [], _∷_}
 use Prim.Native.Nat.{ℕ, _+_}
@@ -7,10 +7,9 @@ use native.Mathlib.Numerals.{add-one}
 use borrow.Author.Tests.{eqb-true}
 use lib.Dec.{eqb, lit<}
 use lib.ListN.{length}
-use Rattle.wire.specs.Choice.{pick, orElse}
+use Rattle.wire.specs.Choice.{pick}
 use Rattle.wire.specs.Buffers.{put}
 use Rattle.wire.proofs.ChoiceLaws.{pick-zero, or-none}
-use Rattle.book.specs.Fresh.{freshAnswer, freshBook}
 use Rattle.daylog.specs.declared.record.Record.{Record}
 use Rattle.daylog.specs.Header.{headerOf, logFault}
 use Rattle.daylog.specs.Records.{recordOf}
@@ -24,14 +23,14 @@ use Rattle.desk.specs.Judging.{tableFault}
 use Rattle.desk.specs.Cells.{raised}
 use Rattle.desk.specs.Counting.{planOf}
 use Rattle.desk.specs.Take.{takeFault, oneMore}
-use Rattle.desk.specs.Open.{openFault, handedFault, dayOf, zeroed}
+use Rattle.desk.specs.Open.{bookFault, openFault, handedFault, dayOf, zeroed}
 use Rattle.desk.specs.Abandon.{abandonAnswer}
 use Rattle.desk.specs.Findings.{findings, bookAfter, foundCount}
 use Rattle.desk.specs.End.{inCells, endFault}
 use Rattle.desk.proofs.OpenLaws.{room-there}
 use Rattle.demands.specs.Counts.{timesOn}
-use Rattle.demands.specs.Calls.{Call, makeBook, openDay, takeRecord, endDay, abandonDay, askBook, Reply, made, moved, ended, told, Desk, Given, stateAfter, logAfter, endState, Gives, fresh-gives, open-gives, take-gives, end-gives, abandon-gives, ask-gives}
-use Rattle.demands.specs.Paper.{Course, idle, during, Paper, Ruled, dayIn, takeNumber, endRefusal, resting, at, openRuled, takeRuled, endRuled, no10, rule}
+use Rattle.demands.specs.Calls.{Call, moved, ended, Desk, Given, stateAfter, logAfter, endState, Gives, fresh-gives, open-gives, take-gives, end-gives, abandon-gives, ask-gives}
+use Rattle.demands.specs.Paper.{Course, idle, during, Paper, Ruled, dayIn, takeNumber, endRefusal, openRuled, takeRuled, endRuled, rule}
 use Rattle.demands.proofs.DayLaws.{Agrees, agrees-open, agrees-take, raised-room, zeroed-length, take-is, end-is, count-is, book-is, findings-are}
 
 abbrev pub desk : State → (log counts book out : List ℕ) → Desk
@@ -59,9 +58,11 @@ pub record Same (g : Given) (r : Ruled) : Type 0 where
   pub after : Stands (g .after) (r .after)
 
 -- ---- a day opened
-no-fault : (log book : List ℕ) (room : ℕ) → handedFault log book room ≡ 0 → logFault log ≡ 0
+pub handed-parts : (log book : List ℕ) (room : ℕ) → handedFault log book room ≡ 0 → (logFault log ≡ 0) × (bookFault (headerOf log) book ≡ 0)
 unfolding handedFault
-no-fault log book room e = or-none (logFault log) _ e .0
+handed-parts log book room e =
+    let q = or-none (logFault log) _ e in
+    (q .0, or-none (bookFault (headerOf log) book) _ (q .1) .0)
 
 open-step : (log₀ log c book out : List ℕ) (room : ℕ) → length c ≡ room → Same
     (record {
@@ -83,7 +84,7 @@ open-step log₀ log c book out room n = rw (← n) (go (handedFault log book (l
     go fault true q e =
         let z : handedFault log book (length c) ≡ 0 = q ∙ eqb-true fault 0 e in
         let h = room-there log book (length c) z in
-        record { reply = refl; after = busy (zeroed-length c h) (agrees-open log c (no-fault log book (length c) z) h) }
+        record { reply = refl; after = busy (zeroed-length c h) (agrees-open log c (handed-parts log book (length c) z .0) h) }
     go fault false q e = record { reply = refl; after = rest refl }
 
 -- ---- a record taken

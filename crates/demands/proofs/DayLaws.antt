@@ -1,30 +1,26 @@
 -- While a day is open the cells are the times of the records taken: every refusal, and what ending writes, is then the rules'.
 -- Assumes nothing.
 use mathlib.Core.Path.{_≡_, refl, sym, ap, ap₂, _∙_}
-use mathlib.Core.Bool.{Bool, true, false, not, _&&_, _||_, and-false}
+use mathlib.Core.Bool.{Bool, true, false, not, _&&_, and-false}
 use mathlib.Core.List.{List, [], _∷_, _++_}
-use Prim.Native.Nat.{ℕ, zero, suc, _+_, _*_, _/_, _%_, _≤_, _<_}
+use Prim.Native.Nat.{ℕ, _+_, _*_, _/_, _%_, _≤_, _<_}
 use native.Mathlib.Omega.{arith}
 use borrow.Author.Tests.{le-leb, le-ltb, eq-eqb, eqb-true, eqb-false}
 use lib.Dec.{leb, ltb, eqb}
 use lib.ListN.{length, getD, drop, replicate, length-append, length-replicate, length-drop, getD-replicate, List·getD-append}
 use Rattle.wire.specs.Choice.{pick, orElse}
-use Rattle.wire.specs.Buffers.{rows}
 use Rattle.wire.specs.Bytes.{bytes}
 use Rattle.wire.proofs.ChoiceLaws.{pick-no, or-else, or-first, flip-no}
 use Rattle.wire.proofs.PlaceLaws.{every-all, count-cong, first-cong}
 use Rattle.wire.proofs.BufferLaws.{rows-cong}
-use Rattle.rules.specs.Ladders.{rung, sanction}
 use Rattle.rules.specs.Measure.{times, enough, reached}
-use Rattle.book.specs.Layout.{headOf, bookOf, totalAt, ladders}
+use Rattle.book.specs.Layout.{headOf, bookOf, totalAt}
 use Rattle.book.specs.Raise.{raised as raisedTotal}
 use Rattle.daylog.specs.declared.header.Header.{Header}
 use Rattle.daylog.specs.declared.record.Record.{Record}
 use Rattle.daylog.specs.Header.{headerOf, logFault}
 use Rattle.daylog.specs.Records.{recordOf}
-use Rattle.daylog.specs.Tables.{Tables, tablesOf}
-use Rattle.desk.specs.declared.judge.Plan.{Plan}
-use Rattle.desk.specs.declared.state.Day.{Day}
+use Rattle.daylog.specs.Tables.{tablesOf}
 use Rattle.desk.specs.declared.state.State.the-variants.{Open}
 use Rattle.desk.specs.Counting.{planOf, countsFor, counted}
 use Rattle.desk.specs.Judging.{tableFault}
@@ -33,12 +29,12 @@ use Rattle.desk.specs.Tables.{sameHeader, tablesChanged}
 use Rattle.desk.specs.Take.{callFault, planFault, recordFault, takeFault}
 use Rattle.desk.specs.Open.{bookFault, zeroed}
 use Rattle.desk.specs.Offences.{groupAt, kindAt, familyAt, familyOf, reachedAt, lowest, lowestOn, offendsOn}
-use Rattle.desk.specs.Findings.{laterYear, memberOn, finding, totalAfter, foundAt, findings, bookAfter, foundCount}
+use Rattle.desk.specs.Findings.{laterYear, totalAfter, foundAt, findings, bookAfter, foundCount}
 use Rattle.desk.specs.End.{rowFault, cellsGood, inCells, countsFault, handedFault, endFault}
 use Rattle.demands.specs.Counts.{howMany, timesOf, timesOn}
 use Rattle.demands.specs.Paper.{dayIn, takeNumber, endRefusal}
 use Rattle.demands.proofs.CountLaws.{many-le, In, cell-there, cell-in, cell-is, raised-length, raised-at}
-use Rattle.demands.proofs.TableLaws.{Known, known-tables, Has, has-record, placed}
+use Rattle.demands.proofs.TableLaws.{known-tables, has-record, placed}
 
 -- ---- chains of refusals
 or-pick : (t : Bool) (n r : ℕ) → (n ≡ 0 → ⊥) → orElse (pick t n 0) r ≡ pick t n r

@@ -16,21 +16,26 @@ use Rattle.daylog.specs.declared.record.Record.{Record}
 use Rattle.desk.specs.declared.state.State.{State}
 use Rattle.desk.specs.declared.state.State.the-variants.{Closed}
 use Rattle.daylog.specs.Header.{headerOf, logFault}
-use Rattle.desk.specs.Open.{bookFault}
+use Rattle.desk.specs.Open.{bookFault, handedFault}
 use Rattle.desk.specs.End.{rowFault}
 use Rattle.calendar.specs.Dates.{year}
 use Rattle.demands.specs.Counts.{howMany}
-use Rattle.demands.specs.Days.{offenceDays, lastOf, bookOver}
-use Rattle.demands.specs.Calls.{Call, makeBook, openDay, takeRecord, endDay, abandonDay, askBook, Reply, numberIn, Desk, Given, Gives, Ran, none, next}
-use Rattle.demands.specs.Paper.{Course, idle, during, Paper, Ruled, dayIn, endRefusal, endRuled, openRuled, takeRuled, rule, rules}
-use Rattle.demands.specs.Demand2.{Seen, seen, ruled, begun, CallsRuled, None, none as nothing, more, NeverChanged, NeverUnsound, FindingsListed, History, recorded, history, left, BookOfDays, TotalsCounted, LogsRuled}
-use Rattle.demands.proofs.CallLaws.{Stands, rest, busy, Same, step, stands-book, stands-out, desk, paper}
+use Rattle.demands.specs.Days.{Ended, offenceDays, lastOf, bookOver}
+use Rattle.demands.specs.Calls.{Call, makeBook, openDay, takeRecord, endDay, abandonDay, askBook, Reply, numberIn, Desk, Given, Ran, none, next}
+use Rattle.demands.specs.Paper.{during, Paper, dayIn, endRefusal, endRuled, openRuled, takeRuled, rule, rules}
+use Rattle.demands.specs.Logs.{front, rowsOf, recordsIn, logNumber, dayBook, ruledFile, ruledLogs}
+use Rattle.demands.specs.Demand2.{Seen, seen, ruled, begun, CallsRuled, None, none as nothing, more, NeverChanged, NeverUnsound, FindingsListed, History, recorded, history, left, BookOfDays, TotalsCounted, LogsRuled, AlwaysAnswered, AlwaysRead, logDays, lastFile, FileOfDays}
+use Rattle.demands.proofs.CallLaws.{Stands, rest, busy, step, stands-book, stands-out, handed-parts, desk, paper}
 use Rattle.demands.proofs.ListedLaws.{findings-list}
 use Rattle.demands.proofs.NumberLaws.{number-is, never-19, never-17}
+use Rattle.demands.proofs.Answers.{answers, reads}
 use Rattle.demands.proofs.LogLaws.{judges-ruled}
-use Rattle.demands.proofs.TotalLaws.{Ready, Kept, kept-none, kept-day, last-is, total-was, ready, ended-sound}
+use Rattle.demands.proofs.TotalLaws.{Ready, Kept, kept-none, kept-day, last-is, total-was, dayOf, ready, ended-sound}
 
 -- ---- any list of calls
+pub always-answered : AlwaysAnswered
+always-answered = answers
+
 same-seen : {reply reply′ : Reply} {book book′ out out′ : List ℕ} → reply ≡ reply′ → book ≡ book′ → out ≡ out′
     → _≡_ {A = Seen} (record { reply = reply; book = book; out = out }) (record { reply = reply′; book = book′; out = out′ })
 same-seen p q r = rw (p, q, r)
@@ -200,3 +205,32 @@ totals-counted w rulebook cs gs e one b r l h =
 -- ---- day logs
 pub logs-ruled : LogsRuled
 logs-ruled = judges-ruled
+
+pub always-read : AlwaysRead
+always-read = reads
+
+kept-pick : (t : Bool) (rulebook : ℕ) (days₁ days : List Ended) (book₁ book : List ℕ) → (t ≡ true → Kept rulebook days₁ book₁) → Kept rulebook days book
+    → Kept rulebook (pick t days₁ days) (pick t book₁ book)
+unfolding pick
+kept-pick true rulebook days₁ days book₁ book y n = y refl
+kept-pick false rulebook days₁ days book₁ book y n = n
+
+log-kept : (rulebook : ℕ) (days : List Ended) (book log : List ℕ) → Kept rulebook days book
+    → Kept rulebook (pick (eqb (logNumber book log) 0) (dayOf (front log) (recordsIn [] (rowsOf log)) ∷ days) days) (ruledFile book log)
+unfolding ruledFile logNumber
+log-kept rulebook days book log k =
+    kept-pick (eqb (logNumber book log) 0) rulebook _ days (dayBook book log) book
+    (λ e.
+    let q = handed-parts (front log) book 12288 (or-none (handedFault (front log) book 12288) _ (eqb-true _ 0 e) .0) in
+    kept-day rulebook days (front log) book (recordsIn [] (rowsOf log)) k (ready (front log) book (q .0) (q .1))) k
+
+file-kept : (rulebook : ℕ) (days : List Ended) (book : List ℕ) (logs : List (List ℕ)) → Kept rulebook days book
+    → lastFile book (ruledLogs book logs) ≡ bookOver rulebook (logDays book days logs)
+unfolding lastFile ruledLogs logDays
+file-kept rulebook days book [] k = k .is
+file-kept rulebook days book (log ∷ logs) k = file-kept rulebook _ (ruledFile book log) logs (log-kept rulebook days book log k)
+
+pub file-of-days : FileOfDays
+file-of-days rulebook logs js one r =
+    ap (lastFile (bookOver rulebook [])) (logs-ruled (bookOver rulebook []) logs js r)
+    ∙ file-kept rulebook [] (bookOver rulebook []) logs (kept-none rulebook (one-of rulebook one))

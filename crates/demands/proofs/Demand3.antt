@@ -3,32 +3,29 @@ use mathlib.Core.Path.{_≡_, refl, sym, ap, ap₂, _∙_, subst}
 use mathlib.Core.Logic.{_⊎_, inl, inr}
 use mathlib.Core.Bool.{Bool, true, false, _&&_}
 use mathlib.Core.List.{List, [], _∷_, map}
-use Prim.Native.Nat.{ℕ, zero, suc, _+_, _/_, _≤_, _<_, zero-le}
+use Prim.Native.Nat.{ℕ, zero, suc, _/_, _≤_, _<_, zero-le}
 use native.Mathlib.Omega.{arith}
 use lib.Dec.{eqb}
-use lib.ListN.{length}
 use Rattle.wire.specs.Choice.{pick, within}
 use Rattle.wire.proofs.ChoiceLaws.{pick-no, and-no-right, bounds}
 use Rattle.calendar.specs.Dates.{year}
 use Rattle.book.specs.Layout.{ladderOf, totalAt}
-use Rattle.daylog.specs.declared.record.Record.{Record}
-use Rattle.daylog.specs.Tables.{Tables}
-use Rattle.desk.specs.declared.state.State.the-variants.{Closed}
 use Rattle.desk.specs.Offences.{groupAt, kindAt, familyAt}
-use Rattle.demands.specs.Counts.{howMany, timesOf, offence}
+use Rattle.demands.specs.Counts.{howMany, offence}
 use Rattle.demands.specs.Days.{Ended, lastOf, offenceOn, offenceDays, bookOver}
 use Rattle.demands.specs.Calls.{Call, numberIn, Desk, Given, Ran, none as no-call, next}
-use Rattle.demands.specs.Paper.{idle, Paper, rule}
+use Rattle.demands.specs.Paper.{Paper}
 use Rattle.demands.specs.Demand2.{begun, History, history, left}
-use Rattle.demands.specs.Join.{Joined, between}
+use Rattle.demands.specs.Join.{Joined}
 use Rattle.demands.specs.Restrictions.{restrictions}
-use Rattle.demands.specs.Demand3.{joinCall, Accepted, none, more, Run, daysOf, AcceptedAgain, DaysJoined, SameDays, Added, CountsAdd, OffencesStay, InYear, NoFewer, NothingLost, SanctionsFound, OthersKept}
+use Rattle.demands.specs.Demand3.{joinCall, Accepted, none, more, Run, daysOf, ChecksSame, AcceptedAgain, DaysJoined, SameDays, CountsAdd, OffencesStay, InYear, NothingLost, SanctionsFound, OthersKept}
 use Rattle.demands.proofs.CallLaws.{Stands, step}
-use Rattle.demands.proofs.NumberLaws.{refusal, number-is}
+use Rattle.demands.proofs.NumberLaws.{number-is}
 use Rattle.demands.proofs.TotalLaws.{OfRulebook, Kept, kept-none, total-was}
 use Rattle.demands.proofs.Demand2.{Holds, begins, one-of, fresh-run}
+use Rattle.demands.proofs.JoinTables.{joined-log}
 use Rattle.demands.proofs.JoinCounts.{times-added, selfs-added, times-other, times-none, offence-a, offence-b, offence-none}
-use Rattle.demands.proofs.JoinRun.{AcceptedBy, Beside, both-idle, runs-again, total-same}
+use Rattle.demands.proofs.JoinRun.{AcceptedBy, both-idle, runs-again, take-same, total-same}
 use Rattle.demands.proofs.RestrictLaws.{KnownDays, third, fewer, none as no-known, more as more-known}
 
 -- ---- acceptance, seen on the paper and on the desk
@@ -61,6 +58,10 @@ module _ (a b rulebook : ℕ) (w w′ : Desk) (cs : List Call) (gs gs′ : List 
       runs-again a b (r .first-a) (r .first-b) (r .last-b) (r .differ) (begun w) (begun w′) start start cs
       (record { course = both-idle; kept = begun-kept w (r .fresh); kept′ = begun-kept w′ (r .fresh′); same = refl; days = none; room = r .counts′; out = r .out′ })
       (accepted-by (begins w (r .closed)) (r .ran) (r .accepted))
+
+pub checks-same : ChecksSame
+checks-same a b log some-a some-b most-b apart e =
+    record { tables = joined-log a b log some-a some-b most-b e .sound; records = λ rs row. take-same a b some-a some-b most-b apart log rs row e }
 
 pub accepted-again : AcceptedAgain
 accepted-again a b rulebook w w′ cs gs gs′ r = by-accepted (begins w′ (r .closed′)) (r .ran′) (both a b rulebook w w′ cs gs gs′ r .0)

@@ -1,8 +1,8 @@
 -- What a joined day finds for groups other than the two, and for the one that is no more. Assumes nothing.
 use mathlib.Core.Path.{_≡_, refl, sym, ap, ap₂, _∙_}
-use mathlib.Core.Bool.{Bool, true, false, _&&_}
+use mathlib.Core.Bool.{Bool, _&&_}
 use mathlib.Core.List.{List, []}
-use Prim.Native.Nat.{ℕ, _≤_, _<_}
+use Prim.Native.Nat.{ℕ, _≤_}
 use lib.Dec.{eqb, ltb}
 use Rattle.wire.specs.Choice.{pick}
 use Rattle.wire.specs.Places.{first}
@@ -18,7 +18,7 @@ use Rattle.daylog.specs.declared.record.Record.{Record}
 use Rattle.daylog.specs.Tables.{Tables}
 use Rattle.desk.specs.Offences.{groupAt, kindAt, familyAt, familyOf, reachedAt, lowest, lowestOn, offendsOn}
 use Rattle.desk.specs.Findings.{memberOn, finding, totalAfter, foundAt}
-use Rattle.demands.specs.Counts.{timesOf, timesOn, offence}
+use Rattle.demands.specs.Counts.{timesOn, offence}
 use Rattle.demands.specs.Join.{Joined}
 use Rattle.demands.proofs.ListedLaws.{offends-is}
 use Rattle.demands.proofs.JoinCounts.{times-other, offence-none, member-other, family-joined}

@@ -1,12 +1,12 @@
 -- A run and the same run with two groups joined go on side by side: what the one accepts, the other does. Assumes nothing.
 use mathlib.Core.Path.{_≡_, refl, sym, ap, ap₂, _∙_, subst}
-use mathlib.Core.Bool.{Bool, true, false, not, _&&_}
+use mathlib.Core.Bool.{Bool, true, not, _&&_}
 use mathlib.Core.List.{List, [], _∷_, map}
 use Prim.Native.Nat.{ℕ, _+_, _*_, _≤_, _<_}
 use native.Mathlib.Nat.{le-trans}
 use native.Mathlib.Omega.{arith}
 use borrow.Author.Tests.{eq-eqb, le-ltb, not-false}
-use lib.Dec.{leb, ltb, eqb, lit<}
+use lib.Dec.{leb, eqb, lit<}
 use lib.ListN.{length}
 use Rattle.wire.specs.Choice.{pick, orElse}
 use Rattle.wire.specs.Buffers.{put}
@@ -24,24 +24,23 @@ use Rattle.daylog.specs.declared.record.Record.{Record}
 use Rattle.daylog.specs.Header.{headerOf, logFault}
 use Rattle.daylog.specs.Records.{recordOf}
 use Rattle.daylog.specs.Tables.{Tables, tablesOf}
-use Rattle.desk.specs.Judging.{tableFault}
 use Rattle.desk.specs.Open.{bookFault, roomFault, handedFault}
 use Rattle.desk.specs.Offences.{groupAt, kindAt, familyAt, offendsOn}
 use Rattle.desk.specs.Findings.{findings, foundAt, bookAfter, foundCount}
 use Rattle.desk.specs.End.{rowFault}
 use Rattle.demands.specs.Counts.{howMany, timesOn, offence}
-use Rattle.demands.specs.Days.{Ended, lastOf, offenceOn, offenceDays, bookOver}
+use Rattle.demands.specs.Days.{Ended, lastOf, offenceOn, offenceDays}
 use Rattle.demands.specs.Calls.{Call, makeBook, openDay, takeRecord, endDay, abandonDay, askBook}
 use Rattle.demands.specs.Paper.{Course, idle, during, Paper, dayIn, takeNumber, endRefusal, resting, at, openRuled, takeRuled, endRuled, rule}
 use Rattle.demands.specs.Demand2.{History, recorded, history}
 use Rattle.demands.specs.Join.{joinLog, Joined}
 use Rattle.demands.specs.Demand3.{joinCall, DaysJoined, none, more}
-use Rattle.demands.proofs.CallLaws.{paper}
+use Rattle.demands.proofs.CallLaws.{paper, handed-parts}
 use Rattle.demands.proofs.ListedLaws.{findings-list}
 use Rattle.demands.proofs.NumberLaws.{refusal}
-use Rattle.demands.proofs.TotalLaws.{Ready, ready, Kept, kept-day, last-is, total-was, book-rulebook, dayOf}
-use Rattle.demands.proofs.Demand2.{Holds, holds-fresh, end-ready}
-use Rattle.demands.proofs.JoinTables.{JoinedLog, joined-log}
+use Rattle.demands.proofs.TotalLaws.{ready, Kept, kept-day, last-is, total-was, book-rulebook, dayOf}
+use Rattle.demands.proofs.Demand2.{Holds, holds-fresh}
+use Rattle.demands.proofs.JoinTables.{joined-log}
 use Rattle.demands.proofs.JoinCounts.{fault-joined, offence-other}
 use Rattle.demands.proofs.JoinFound.{found-other, found-none}
 
@@ -114,13 +113,7 @@ module _ (a b rulebook : ℕ) (days days′ : List Ended) (book book′ : List �
       total-was rulebook days′ book′ k′ l h ∙ ap (λ (n : ℕ). offenceDays (year n) l days′) (last-same j)
       ∙ days-other a b rulebook (year (lastOf days)) l some-a apart not-a not-b j ∙ sym (total-was rulebook days book k l h)
 
--- ---- opening's refusals, taken apart and put together
-handed-parts : (log book : List ℕ) (room : ℕ) → handedFault log book room ≡ 0 → (logFault log ≡ 0) × (bookFault (headerOf log) book ≡ 0)
-unfolding handedFault
-handed-parts log book room e =
-    let q = or-none (logFault log) _ e in
-    (q .0, or-none (bookFault (headerOf log) book) _ (q .1) .0)
-
+-- ---- opening's refusals put together
 handed-whole : (log book : List ℕ) (room : ℕ) → logFault log ≡ 0 → bookFault (headerOf log) book ≡ 0 → 12288 ≤ room → handedFault log book room ≡ 0
 unfolding handedFault roomFault
 handed-whole log book room e f h =
@@ -202,7 +195,7 @@ module _ (a b : ℕ) (some-a : 1 ≤ a) (some-b : 1 ≤ b) (most-b : b ≤ 128) 
       }
 
   -- a record taken
-  take-same : (log : List ℕ) (rs : List Record) (row : List ℕ) → logFault log ≡ 0 → takeNumber (joinLog a b log) rs row ≡ takeNumber log rs row
+  pub take-same : (log : List ℕ) (rs : List Record) (row : List ℕ) → logFault log ≡ 0 → takeNumber (joinLog a b log) rs row ≡ takeNumber log rs row
   unfolding takeNumber
   take-same log rs row e =
       let j = joined-log a b log some-a some-b most-b e in

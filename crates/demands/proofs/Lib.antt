@@ -5,6 +5,7 @@ pub mod CallLaws
 pub mod ListedLaws
 pub mod TotalLaws
 pub mod NumberLaws
+pub mod Answers
 pub mod LogLaws
 pub mod Demand2
 pub mod JoinTables

@@ -9,10 +9,10 @@ use lib.Dec.{eqb}
 use lib.ListN.{length, replicate, length-replicate}
 use Rattle.wire.specs.Choice.{pick, orElse}
 use Rattle.wire.specs.Buffers.{put}
-use Rattle.wire.proofs.ChoiceLaws.{pick-yes, pick-no, or-else, or-first, or-none, flip-yes, flip-no}
+use Rattle.wire.proofs.ChoiceLaws.{pick-yes, pick-no, or-else, or-first, flip-yes, flip-no}
 use Rattle.wire.proofs.PlaceLaws.{count-le}
 use Rattle.daylog.specs.declared.record.Record.{Record}
-use Rattle.daylog.specs.Header.{headerOf, logFault}
+use Rattle.daylog.specs.Header.{headerOf}
 use Rattle.daylog.specs.Records.{recordOf}
 use Rattle.daylog.specs.Tables.{Tables, tablesOf}
 use Rattle.desk.specs.Cells.{cells}
@@ -25,7 +25,7 @@ use Rattle.demands.specs.Calls.{Call, openDay, takeRecord, endDay, numbe
 use Rattle.demands.specs.Paper.{idle, during, Paper, dayIn, takeNumber, endRefusal, openRuled, takeRuled, endRuled, rule}
 use Rattle.demands.specs.Logs.{front, rowsOf, isEnd, Reads, stops, cut, takes, take-refused, end-refused, ends, follows, clerkDesk, Judges, open-refused, opened, fileAfter, recordsIn, isLast, rowsNumber, logNumber, dayFindings, ruledFile, Judged, printedOf, JudgesAll, none as no-log, next as one-log, ruledLogs}
 use Rattle.demands.specs.Demand2.{LogsRuled}
-use Rattle.demands.proofs.CallLaws.{Stands, rest, busy, step, paper, stands-book, stands-out}
+use Rattle.demands.proofs.CallLaws.{Stands, rest, step, paper, stands-book, stands-out, handed-parts}
 use Rattle.demands.proofs.NumberLaws.{refusal, number-is}
 
 -- ---- the end's refusal
@@ -161,10 +161,6 @@ module _ (log book out : List ℕ) (room : ℕ) (b : bookFault (headerOf log) bo
 clerk-rests : (book : List ℕ) → Stands (clerkDesk book) (paper idle book (replicate 49152 0) cells)
 clerk-rests book = rest (length-replicate {A = ℕ} cells 0)
 
-no-book-fault : (log book : List ℕ) (room : ℕ) → handedFault log book room ≡ 0 → bookFault (headerOf log) book ≡ 0
-unfolding handedFault
-no-book-fault log book room e = or-none (bookFault (headerOf log) book) _ (or-none (logFault log) _ e .1) .0
-
 judges : {n : ℕ} {w : Desk} (book log : List ℕ) → Judges book log n w
     → Read (front log) book (replicate 49152 0) n (logNumber book log) (recordsIn [] (rowsOf log)) w
 unfolding logNumber
@@ -174,7 +170,7 @@ judges book log (open-refused m f) =
 judges book log (opened m z r) =
     let s = clerk-rests book in
     let f : handedFault (front log) book cells ≡ 0 = sym (open-number s m) ∙ z in
-    let q = reads (front log) book (replicate 49152 0) cells (no-book-fault (front log) book cells f) (omega (arith, length-replicate {A = ℕ} 49152 0)) [] (open-stands s m f) r in
+    let q = reads (front log) book (replicate 49152 0) cells (handed-parts (front log) book cells f .1) (omega (arith, length-replicate {A = ℕ} 49152 0)) [] (open-stands s m f) r in
     record { same = q .same ∙ sym (or-else (handedFault (front log) book cells) _ f); written = q .written }
 
 -- ---- a list of logs

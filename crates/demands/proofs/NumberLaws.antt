@@ -1,14 +1,14 @@
 -- Which numbers a call by the rules can have: never 19, and never 17 on a sound book. Assumes nothing.
-use mathlib.Core.Path.{_≡_, refl, sym, ap, _∙_}
-use mathlib.Core.Bool.{Bool, true, false, not, _&&_}
-use mathlib.Core.List.{List, []}
+use mathlib.Core.Path.{_≡_, refl, sym, _∙_}
+use mathlib.Core.Bool.{Bool, true, false, not}
+use mathlib.Core.List.{List}
 use Prim.Native.Nat.{ℕ, _≤_, _<_}
 use native.Mathlib.Omega.{arith}
-use borrow.Author.Tests.{eqb-true, eq-eqb}
-use lib.Dec.{eqb, ltb}
+use borrow.Author.Tests.{eq-eqb}
+use lib.Dec.{eqb}
 use lib.ListN.{length}
 use Rattle.wire.specs.Choice.{pick, orElse}
-use Rattle.wire.proofs.ChoiceLaws.{pick-le, pick-yes, pick-no, or-else, or-first, flip-no}
+use Rattle.wire.proofs.ChoiceLaws.{pick-le, pick-no, flip-no}
 use Rattle.book.specs.Fresh.{freshNumber, freshFault, freshAnswer}
 use Rattle.book.specs.Ask.{askNumber, askFault, askAnswer}
 use Rattle.book.specs.Sound.{sound}

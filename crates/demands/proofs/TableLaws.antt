@@ -1,20 +1,19 @@
 -- What is known of the tables in a log without fault: few contracts, groups in range; and of a record that they have. Assumes nothing.
-use mathlib.Core.Path.{_≡_, refl, sym, ap, _∙_}
-use mathlib.Core.Bool.{Bool, true, false, not, _&&_}
+use mathlib.Core.Path.{_≡_, refl, sym}
+use mathlib.Core.Bool.{true, _&&_}
 use mathlib.Core.List.{List}
-use Prim.Native.Nat.{ℕ, _+_, _*_, _/_, _≤_, _<_}
+use Prim.Native.Nat.{ℕ, _*_, _≤_, _<_}
 use native.Mathlib.Omega.{arith}
 use borrow.Author.Tests.{ltb-true, lt-ltb, not-false}
-use lib.Dec.{leb, ltb, eqb, lit<}
-use lib.ListN.{length, drop, length-take}
-use Rattle.wire.specs.Choice.{pick, within}
+use lib.Dec.{ltb, eqb, lit<}
+use lib.ListN.{drop, length-take}
+use Rattle.wire.specs.Choice.{within}
 use Rattle.wire.proofs.ChoiceLaws.{pick-yes, pick-zero, and-left, and-right, bounds}
 use Rattle.wire.proofs.PlaceLaws.{every-at}
 use Rattle.daylog.specs.declared.record.Record.{Record}
 use Rattle.daylog.specs.Accounts.{accountAt, numberBefore, accountGoodAt, accountsGood}
-use Rattle.daylog.specs.Header.{headerOf, contractsPart, accountsPart, logFault}
+use Rattle.daylog.specs.Header.{headerOf, accountsPart, logFault}
 use Rattle.daylog.specs.Entries.{entries}
-use Rattle.daylog.specs.Sound.{Sound}
 use Rattle.daylog.specs.Tables.{Tables, tablesIn, tablesOf}
 use Rattle.daylog.proofs.FaultLaws.{log-sound}
 use Rattle.desk.specs.Counting.{accountOf, contractOf, hasAccount, hasContract, groupOf, planFor, planOf}

@@ -1,12 +1,12 @@
 -- The book is that of the days: a day ended on it makes the book of one day more. Assumes nothing.
 use mathlib.Core.Path.{_≡_, refl, sym, ap, ap₂, _∙_, subst}
-use mathlib.Core.Bool.{Bool, true, false, not, _&&_}
+use mathlib.Core.Bool.{Bool, true, false, _&&_}
 use mathlib.Core.List.{List, [], _∷_, _++_}
-use Prim.Native.Nat.{ℕ, _+_, _≤_, _<_, zero-le}
+use Prim.Native.Nat.{ℕ, _+_, _<_}
 use native.Mathlib.Nat.{add-comm}
 use native.Mathlib.Omega.{arith}
 use borrow.Author.Tests.{ltb-true, ltb-false, leb-false, eqb-true, eq-eqb, ne-eqb, not-false}
-use lib.Dec.{leb, eqb, lit<}
+use lib.Dec.{eqb, lit<}
 use lib.ListN.{getD}
 use Rattle.wire.specs.Choice.{pick, within}
 use Rattle.wire.specs.Bytes.{bytes}

@@ -19,10 +19,10 @@ use Rattle.daylog.specs.Tables.{Tables, tablesOf}
 use Rattle.desk.specs.declared.state.State.the-variants.{Closed}
 use Rattle.desk.specs.Findings.{findings, foundCount}
 use Rattle.demands.specs.Counts.{timesOn}
-use Rattle.demands.specs.Days.{Ended, lastOf, offenceDays, bookOver}
+use Rattle.demands.specs.Days.{Ended, offenceDays, bookOver}
 use Rattle.demands.specs.Listed.{Lists}
 use Rattle.demands.specs.Calls.{Call, makeBook, openDay, takeRecord, endDay, abandonDay, askBook, Reply, numberIn, Desk, Given, Ran}
-use Rattle.demands.specs.Logs.{Judged, JudgesAll, ruledLogs}
+use Rattle.demands.specs.Logs.{front, rowsOf, recordsIn, logNumber, ruledFile, Judged, JudgesAll, ruledLogs}
 use Rattle.demands.specs.Paper.{Course, idle, during, Paper, Ruled, endRefusal, rule, rules}
 
 -- ---- any list of calls
@@ -41,6 +41,14 @@ ruled r = record { reply = r .reply; book = r .after .book; out = r .after .out 
 -- the paper that goes with a desk on which no day is open
 abbrev pub begun : Desk → Paper
 begun w = record { course = idle; book = w .book; out = w .out; room = length (w .counts) }
+
+-- every list of calls has its answers, so that nothing here holds for want of a run
+pub record Answered (w : Desk) (cs : List Call) : Type 0 where
+  pub given : List Given
+  pub ran : Ran w cs given
+
+abbrev pub AlwaysAnswered : Type 0
+AlwaysAnswered = (w : Desk) (cs : List Call) → Answered w cs
 
 -- every answer, every refusal's number, the findings and the book are those of the rules; for any book, any lengths of buffers
 abbrev pub CallsRuled : Type 0
@@ -104,3 +112,27 @@ TotalsCounted = (w : Desk) (rulebook : ℕ) (cs : List Call) (gs : List Given) �
 -- ---- any list of day logs as bytes, as the clerk reads them: the numbers, the findings and the book's file are the rules'
 abbrev pub LogsRuled : Type 0
 LogsRuled = (book : List ℕ) (logs : List (List ℕ)) (js : List Judged) → JudgesAll book logs js → js ≡ ruledLogs book logs
+
+-- and every list of logs comes to something
+pub record Read (book : List ℕ) (logs : List (List ℕ)) : Type 0 where
+  pub judged : List Judged
+  pub all : JudgesAll book logs judged
+
+abbrev pub AlwaysRead : Type 0
+AlwaysRead = (book : List ℕ) (logs : List (List ℕ)) → Read book logs
+
+-- from a fresh book's file on, the file is the book of the days whose logs were accepted
+unfoldable pub logDays : List ℕ → List Ended → List (List ℕ) → List Ended
+logDays book days [] = days
+logDays book days (log ∷ logs) =
+    logDays (ruledFile book log)
+    (pick (eqb (logNumber book log) 0)
+    (record { date = headerOf (front log) .date; tables = tablesOf (front log); records = recordsIn [] (rowsOf log) } ∷ days) days) logs
+
+unfoldable pub lastFile : List ℕ → List Judged → List ℕ
+lastFile book [] = book
+lastFile book (j ∷ js) = lastFile (j .book) js
+
+abbrev pub FileOfDays : Type 0
+FileOfDays = (rulebook : ℕ) (logs : List (List ℕ)) (js : List Judged) → (rulebook ≡ 1) ⊎ (rulebook ≡ 2) → JudgesAll (bookOver rulebook []) logs js
+    → lastFile (bookOver rulebook []) js ≡ bookOver rulebook (logDays (bookOver rulebook []) [] logs)

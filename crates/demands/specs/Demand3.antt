@@ -3,13 +3,14 @@
 -- theorems under the same names.
 use mathlib.Core.Path.{_≡_}
 use mathlib.Core.Logic.{_⊎_}
-use mathlib.Core.Bool.{true, false}
+use mathlib.Core.Bool.{true}
 use mathlib.Core.List.{List, [], _∷_, map}
 use Prim.Native.Nat.{ℕ, _+_, _≤_, _<_}
 use lib.ListN.{length}
 use Rattle.calendar.specs.Dates.{year}
 use Rattle.book.specs.Layout.{ladders, ladderOf, totalAt}
 use Rattle.daylog.specs.declared.record.Record.{Record}
+use Rattle.daylog.specs.Header.{logFault}
 use Rattle.daylog.specs.Tables.{Tables}
 use Rattle.desk.specs.declared.state.State.the-variants.{Closed}
 use Rattle.desk.specs.Cells.{cells}
@@ -18,7 +19,8 @@ use Rattle.desk.specs.Findings.{foundAt}
 use Rattle.demands.specs.Counts.{timesOf, timesOn, offence}
 use Rattle.demands.specs.Days.{Ended, bookOver}
 use Rattle.demands.specs.Calls.{Call, makeBook, openDay, takeRecord, endDay, abandonDay, askBook, numberIn, Desk, Given, Ran}
-use Rattle.demands.specs.Demand2.{begun, History, history, left}
+use Rattle.demands.specs.Paper.{takeNumber}
+use Rattle.demands.specs.Demand2.{begun, history, left}
 use Rattle.demands.specs.Join.{joinLog, Joined, between}
 use Rattle.demands.specs.Restrictions.{restrictions, Sanctioned}
 
@@ -58,7 +60,16 @@ pub record Run (a b rulebook : ℕ) (w w′ : Desk) (cs : List Call) (gs gs′ :
 abbrev pub daysOf : ℕ → Desk → List Call → List Ended
 daysOf rulebook w cs = history (begun w) (record { rulebook = rulebook; days = [] }) cs .days
 
--- 1. each call is accepted again
+-- 1. "table and record checks give the same numbers": tables without fault have none again, and a record is refused by them
+-- with the number that it was refused with, or taken
+pub record SameChecks (a b : ℕ) (log : List ℕ) : Type 0 where
+  pub tables : logFault (joinLog a b log) ≡ 0
+  pub records : (rs : List Record) (row : List ℕ) → takeNumber (joinLog a b log) rs row ≡ takeNumber log rs row
+
+abbrev pub ChecksSame : Type 0
+ChecksSame = (a b : ℕ) (log : List ℕ) → 1 ≤ a → 1 ≤ b → b ≤ 128 → (a ≡ b → ⊥) → logFault log ≡ 0 → SameChecks a b log
+
+-- each call is accepted again
 abbrev pub AcceptedAgain : Type 0
 AcceptedAgain = (a b rulebook : ℕ) (w w′ : Desk) (cs : List Call) (gs gs′ : List Given) → Run a b rulebook w w′ cs gs gs′ → Accepted gs′
 

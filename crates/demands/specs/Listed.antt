@@ -8,7 +8,7 @@ use Rattle.rules.specs.Ladders.{rung, sanction}
 use Rattle.book.specs.Layout.{ladders, ladderOf}
 use Rattle.daylog.specs.declared.record.Record.{Record}
 use Rattle.daylog.specs.Tables.{Tables}
-use Rattle.desk.specs.Offences.{groupAt, kindAt, familyAt, familyOf, lowestOn}
+use Rattle.desk.specs.Offences.{groupAt, kindAt, familyAt, lowestOn}
 use Rattle.desk.specs.Findings.{finding, memberOn, totalAfter}
 use Rattle.demands.specs.Counts.{timesOn, offence, reachesOn}
 

@@ -13,10 +13,7 @@ use Rattle.daylog.specs.Header.{headerOf}
 use Rattle.daylog.specs.Records.{recordOf}
 use Rattle.daylog.specs.Tables.{tablesOf}
 use Rattle.desk.specs.declared.state.Day.{Day}
-use Rattle.desk.specs.declared.state.State.{State}
 use Rattle.desk.specs.declared.state.State.the-variants.{Closed, Open}
-use Rattle.desk.specs.declared.state.Answer.{Answer}
-use Rattle.desk.specs.declared.end.Ended.{Ended}
 use Rattle.desk.specs.declared.end.Ended.the-variants.{Done, Refused}
 use Rattle.desk.specs.Answers.{answered}
 use Rattle.desk.specs.Judging.{tableFault}

@@ -1,0 +1,229 @@
+//! The join of two groups (demand 3): all accounts of group a are given b's number in every day's table. What it does
+//! to the bytes and to the counts, and what must hold between the year as it was and the joined one.
+use crate::book;
+use crate::build::{Day, Record};
+use crate::calls::{self, cell, Finding, State, CELLS};
+use crate::refusal::Refusal;
+use crate::rules::{self, FAMILIES, GROUPS, KINDS, PLACES};
+use crate::tables::{read16, ENTRY, HEADER};
+use crate::years::Year;
+
+/// A log, or its tables alone, with byte 4 of a's account entries changed and nothing else.
+pub fn joined(log: &[u8], a: u8, b: u8) -> Vec<u8> {
+    let mut bytes = log.to_vec();
+    let (contracts, accounts) = (read16(log, 10) as usize, read16(log, 12) as usize);
+    let start = HEADER + ENTRY * contracts;
+    for entry in bytes[start..start + ENTRY * accounts].chunks_exact_mut(ENTRY) {
+        if entry[4] == a {
+            entry[4] = b;
+        }
+    }
+    bytes
+}
+
+/// The day's counts by the reference's calls, over these tables.
+pub fn cells(day: &Day, tables: &[u8]) -> Result<Vec<u32>, Refusal> {
+    let (mut state, mut counts, mut book) = (State::Closed, vec![0; CELLS], vec![0; book::LENGTH]);
+    calls::fresh(day.rulebook as u64, &mut book)?;
+    calls::open(&mut state, tables, &book, &mut counts)?;
+    for (record, times) in &day.records {
+        let bytes = record.bytes();
+        (0..*times).try_for_each(|_| calls::take(&mut state, tables, &bytes, &mut counts))?;
+    }
+    Ok(counts)
+}
+
+/// What the join makes of a day's counts: b's and a's added, with the trades between the two among the self-trades.
+pub fn joined_cells(year: &Year, day: &Day, mut cells: Vec<u32>) -> Vec<u32> {
+    let [between, _] = trades_between(year, day);
+    for kind in 1..=KINDS {
+        for place in 0..PLACES {
+            let (from, to) = (cell(year.a as usize, kind, place), cell(year.b as usize, kind, place));
+            cells[to] += std::mem::take(&mut cells[from]);
+            cells[to] += if kind == 1 { between[place] } else { 0 };
+        }
+    }
+    cells
+}
+
+/// The trades between the two groups by contract: those that are not exempt, and those that are.
+pub fn trades_between(year: &Year, day: &Day) -> [[u32; PLACES]; 2] {
+    let group_of = |number| day.accounts.iter().find(|account| account.number == number).map(|account| account.group);
+    let mut between = [[0; PLACES]; 2];
+    for (record, times) in &day.records {
+        let Record::Trade { contract, buyer, seller, orders, .. } = record else { continue };
+        let groups = [group_of(*buyer), group_of(*seller)];
+        let is_between = groups.contains(&Some(year.a)) && groups.contains(&Some(year.b));
+        let is_exempt = orders.iter().any(|order| rules::is_exempt(day.rulebook, 1, order.0, order.1));
+        if is_between {
+            let place = day.contracts.iter().position(|listed| listed.id == *contract);
+            between[is_exempt as usize][place.expect("the record's contract is in the tables")] += times;
+        }
+    }
+    between
+}
+
+/// A finding with the line that it was read from.
+pub struct Line {
+    pub text: String,
+    pub finding: Finding,
+}
+
+impl Line {
+    fn is_of(&self, group: u8, (kind, family): Ladder) -> bool {
+        let finding = &self.finding;
+        (finding.group, finding.kind as usize, finding.family as usize) == (group, kind, family)
+    }
+}
+
+/// What a program gave for a year: the findings of each day, and the book after the last.
+pub struct Given {
+    pub days: Vec<Vec<Line>>,
+    pub book: Vec<u8>,
+}
+
+type Ladder = (usize, usize);
+
+fn ladders() -> impl Iterator<Item = Ladder> {
+    (1..=KINDS).flat_map(|kind| (0..FAMILIES).map(move |family| (kind, family)))
+}
+
+impl Given {
+    pub fn has(&self, day: usize, group: u8, ladder: Ladder) -> bool {
+        self.days[day].iter().any(|line| line.is_of(group, ladder))
+    }
+
+    fn total(&self, group: u8, (kind, family): Ladder) -> u16 {
+        book::total(&self.book, group as usize, kind, family)
+    }
+
+    /// The year's findings of the group on the ladder with one of the sanctions.
+    fn with_sanction(&self, group: u8, ladder: Ladder, sanctions: &[u8]) -> usize {
+        let lines = self.days.iter().flatten();
+        lines.filter(|line| line.is_of(group, ladder) && sanctions.contains(&line.finding.sanction)).count()
+    }
+}
+
+/// No opening for a month or for three: a member in the other group can turn the first into the second.
+const RESTRICTIONS: [u8; 2] = [3, 5];
+
+/// A year as it was and as it is when joined.
+pub struct Join<'a> {
+    pub year: &'a Year,
+    pub before: &'a Given,
+    pub after: &'a Given,
+}
+
+impl Join<'_> {
+    pub fn check(&self) -> Result<(), String> {
+        for day in 0..self.year.days.len() {
+            let date = self.year.days[day].date;
+            self.others_are_as_they_were(day).map_err(|what| format!("{date}: {what}"))?;
+            self.offences_stay(day).map_err(|what| format!("{date}: {what}"))?;
+        }
+        self.other_totals_are_as_they_were()?;
+        ladders().try_for_each(|ladder| self.no_fewer(ladder))
+    }
+
+    /// The two groups apart, whole lines; and group a has none any more.
+    fn others_are_as_they_were(&self, day: usize) -> Result<(), String> {
+        let (a, b) = (self.year.a, self.year.b);
+        let mut lines = self.after.days[day].iter();
+        if let Some(line) = lines.find(|line| line.finding.group == a) {
+            return Err(format!("group {a} still has {:?}", line.text));
+        }
+        let [before, after] = [self.before, self.after].map(|given| {
+            let others = given.days[day].iter().filter(|line| ![a, b].contains(&line.finding.group));
+            others.map(|line| &line.text[..]).collect::<Vec<_>>()
+        });
+        if before != after {
+            return Err(format!("other groups had {before:?}, and have {after:?} when {a} is joined to {b}"));
+        }
+        Ok(())
+    }
+
+    fn offences_stay(&self, day: usize) -> Result<(), String> {
+        let (a, b) = (self.year.a, self.year.b);
+        for ladder in ladders() {
+            let had = self.before.has(day, a, ladder) || self.before.has(day, b, ladder);
+            if had && !self.after.has(day, b, ladder) {
+                return Err(format!("{a} or {b} had an offence on {ladder:?}, and joined they have none"));
+            }
+        }
+        Ok(())
+    }
+
+    fn other_totals_are_as_they_were(&self) -> Result<(), String> {
+        for group in (1..=GROUPS as u8).filter(|&group| group != self.year.b) {
+            for ladder in ladders() {
+                let before = if group == self.year.a { 0 } else { self.before.total(group, ladder) };
+                let after = self.after.total(group, ladder);
+                if after != before {
+                    return Err(format!("group {group}'s total on {ladder:?} is {after} and should be {before}"));
+                }
+            }
+        }
+        Ok(())
+    }
+
+    /// Neither the year's total nor its restrictions are fewer than either group had.
+    fn no_fewer(&self, ladder: Ladder) -> Result<(), String> {
+        let total = self.after.total(self.year.b, ladder);
+        let restrictions = self.after.with_sanction(self.year.b, ladder, &RESTRICTIONS);
+        for group in [self.year.a, self.year.b] {
+            let had = self.before.total(group, ladder);
+            let had_restrictions = self.before.with_sanction(group, ladder, &RESTRICTIONS);
+            if total < had {
+                return Err(format!("group {group}'s total on {ladder:?} was {had}, the joined one's is {total}"));
+            }
+            if restrictions < had_restrictions {
+                return Err(format!(
+                    "group {group} had {had_restrictions} restrictions on {ladder:?}, joined there are {restrictions}"
+                ));
+            }
+        }
+        Ok(())
+    }
+
+    pub fn has_restriction(&self) -> bool {
+        ladders().any(|ladder| {
+            let groups = [self.year.a, self.year.b];
+            groups.iter().any(|&group| self.before.with_sanction(group, ladder, &RESTRICTIONS) > 0)
+        })
+    }
+
+    /// A ladder of the joined group that started again after its third rung.
+    pub fn is_past_third(&self) -> bool {
+        ladders().any(|ladder| self.after.total(self.year.b, ladder) > 3)
+    }
+
+    /// An offence of the two together on a day that was neither's.
+    pub fn gained(&self, day: usize) -> bool {
+        let groups = [self.year.a, self.year.b];
+        ladders().any(|ladder| {
+            self.after.has(day, self.year.b, ladder) && !groups.iter().any(|&g| self.before.has(day, g, ladder))
+        })
+    }
+
+    /// Where counting sanction 3 alone would find fewer than before: a day's line of the ladder and what it becomes.
+    pub fn lost_by_sanction_3(&self) -> Option<String> {
+        let groups = [self.year.a, self.year.b];
+        ladders().flat_map(|ladder| groups.map(|group| (ladder, group))).find_map(|(ladder, group)| {
+            let had = self.before.with_sanction(group, ladder, &[3]);
+            let has = self.after.with_sanction(self.year.b, ladder, &[3]);
+            let (date, line, now) = self.turned_into_5(ladder, group).filter(|_| has < had)?;
+            let Year { a, b, .. } = self.year;
+            Some(format!("{a} joined to {b}: on {date} {line:?} becomes {now:?}; sanction 3 on it: {had}, then {has}"))
+        })
+    }
+
+    fn turned_into_5(&self, ladder: Ladder, group: u8) -> Option<(u32, &str, &str)> {
+        (0..self.year.days.len()).find_map(|day| {
+            let mut before = self.before.days[day].iter();
+            let mut after = self.after.days[day].iter();
+            let line = before.find(|line| line.is_of(group, ladder) && line.finding.sanction == 3)?;
+            let now = after.find(|line| line.is_of(self.year.b, ladder) && line.finding.sanction == 5)?;
+            Some((self.year.days[day].date, &line.text[..], &now.text[..]))
+        })
+    }
+}

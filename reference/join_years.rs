@@ -1,0 +1,239 @@
+//! Runs generated years twice through the programs, as they are and with two groups joined, and judges what they gave.
+use crate::book;
+use crate::build::{end_record, Day, Script};
+use crate::calls::{Finding, CELLS};
+use crate::cases::Feed;
+use crate::clerk;
+use crate::compare::{run_clerk, shortened, Bench, Difference};
+use crate::join::{cells, joined, joined_cells, trades_between, Given, Join, Line};
+use crate::parallel::in_parallel;
+use crate::replay;
+use crate::run::{command, run, Programs};
+use crate::years::Year;
+use std::fs;
+use std::path::Path;
+use std::sync::Mutex;
+
+/// One year in so many also goes through replay, call by call; rulebooks change from year to year.
+const REPLAYED: usize = 3;
+const FINDINGS: u32 = 49_152;
+
+/// What came up in the years.
+#[derive(Default)]
+pub struct Seen {
+    pub years: usize,
+    pub days: usize,
+    pub replayed: usize,
+    /// Findings of the two groups as they were, and of the joined group.
+    pub findings: usize,
+    pub joined_findings: usize,
+    pub with_restriction: usize,
+    pub past_third: usize,
+    pub days_gained: usize,
+    /// Trades between the two groups that are self-trades when they are joined, and those that are exempt.
+    pub between: usize,
+    pub exempt_between: usize,
+    pub lost: Vec<(usize, String)>,
+}
+
+impl Seen {
+    fn add(&mut self, i: usize, join: &Join) {
+        let Year { a, b, ref days, .. } = *join.year;
+        let of = |given: &Given, groups: &[u8]| {
+            given.days.iter().flatten().filter(|line| groups.contains(&line.finding.group)).count()
+        };
+        self.years += 1;
+        self.days += days.len();
+        self.replayed += is_replayed(i) as usize;
+        self.findings += of(join.before, &[a, b]);
+        self.joined_findings += of(join.after, &[b]);
+        self.with_restriction += join.has_restriction() as usize;
+        self.past_third += join.is_past_third() as usize;
+        self.days_gained += (0..days.len()).filter(|&day| join.gained(day)).count();
+        for day in days {
+            let [counted, exempt] =
+                trades_between(join.year, day).map(|by_place| by_place.iter().sum::<u32>() as usize);
+            self.between += counted;
+            self.exempt_between += exempt;
+        }
+        self.lost.extend(join.lost_by_sanction_3().map(|example| (i, example)));
+    }
+}
+
+/// All years, several at a time.
+pub fn check_years(bench: &Bench, years: &[Year]) -> (Seen, Vec<Difference>) {
+    let shared = Mutex::new((Seen::default(), Vec::new()));
+    in_parallel(bench.folder, years.len(), |i, scratch| {
+        let result = check_year(bench.programs, scratch, i, &years[i], |join| shared.lock().unwrap().0.add(i, join));
+        if let Err(what) = result {
+            keep(bench, i, &years[i], &what);
+            let name = format!("year {i}, group {} joined to {}", years[i].a, years[i].b);
+            shared.lock().unwrap().1.push(Difference { case: i, name, what });
+        }
+    });
+    let (mut seen, mut differences) = shared.into_inner().unwrap();
+    seen.lost.sort();
+    differences.sort_by_key(|difference| difference.case);
+    (seen, differences)
+}
+
+fn is_replayed(i: usize) -> bool {
+    i % REPLAYED == 0
+}
+
+/// A failed year's logs, as they are and joined.
+fn keep(bench: &Bench, i: usize, year: &Year, what: &str) {
+    let folder = bench.folder.join(format!("differs-{}-{i}", bench.label));
+    let written = fs::create_dir_all(&folder).and_then(|()| {
+        fs::write(folder.join("what"), format!("group {} joined to {}\n{what}\n", year.a, year.b))?;
+        year.days.iter().map(Day::log).enumerate().try_for_each(|(k, log)| {
+            fs::write(folder.join(format!("log-{k}")), &log)?;
+            fs::write(folder.join(format!("joined-{k}")), joined(&log, year.a, year.b))
+        })
+    });
+    if let Err(error) = written {
+        eprintln!("a failed year could not be kept: {error}");
+    }
+}
+
+/// The year through the clerk twice; then the counts, the join's promises, the reference's answers.
+fn check_year(programs: &Programs, scratch: &Path, i: usize, year: &Year, see: impl Fn(&Join)) -> Result<(), String> {
+    let logs: Vec<Vec<u8>> = year.days.iter().map(Day::log).collect();
+    let joined_logs: Vec<Vec<u8>> = logs.iter().map(|log| joined(log, year.a, year.b)).collect();
+    let before = through_clerk(programs, scratch, year.rulebook, &logs)?;
+    let after =
+        through_clerk(programs, scratch, year.rulebook, &joined_logs).map_err(|what| format!("joined: {what}"))?;
+    let join = Join { year, before: &before.given, after: &after.given };
+    join.check()?;
+    let counts = check_cells(year)?;
+    as_the_reference(&before, year.rulebook, &logs)?;
+    as_the_reference(&after, year.rulebook, &joined_logs).map_err(|what| format!("joined: {what}"))?;
+    if is_replayed(i) {
+        through_replay(programs, scratch, &year_script(year, Day::tables), &counts.0)?;
+        let script = year_script(year, |day| joined(&day.tables(), year.a, year.b));
+        through_replay(programs, scratch, &script, &counts.1).map_err(|what| format!("joined: {what}"))?;
+    }
+    see(&join);
+    Ok(())
+}
+
+/// What the clerk gave for a year, with its texts and the book after each day.
+struct ThroughClerk {
+    given: Given,
+    texts: Vec<String>,
+    books: Vec<Vec<u8>>,
+}
+
+/// A fresh book by newbook, then a log after the other by the clerk. Each must be accepted.
+fn through_clerk(programs: &Programs, scratch: &Path, rulebook: u8, logs: &[Vec<u8>]) -> Result<ThroughClerk, String> {
+    let _ = fs::remove_dir_all(scratch);
+    fs::create_dir_all(scratch).map_err(|e| e.to_string())?;
+    let mut words = programs.words(&programs.newbook);
+    words.push(rulebook.to_string());
+    run(command(&words, scratch), scratch, &[], Feed::Pipe).map_err(|e| e.to_string())?;
+    let (mut days, mut texts, mut books) = (Vec::new(), Vec::new(), Vec::new());
+    for (k, log) in logs.iter().enumerate() {
+        let feed = [Feed::Pipe, Feed::File, Feed::Uneven][k % 3];
+        let text = run_clerk(programs, scratch, log, feed).map_err(|what| format!("day {k}: {what}"))?;
+        let lines = read_lines(&text).ok_or_else(|| format!("day {k} gives {:?}", shortened(&text)))?;
+        days.push(lines);
+        texts.push(text);
+        books.push(fs::read(scratch.join("book.axb")).map_err(|e| e.to_string())?);
+    }
+    let book = books.last().cloned().filter(|book| book.len() == book::LENGTH).ok_or("the book has another length")?;
+    Ok(ThroughClerk { given: Given { days, book }, texts, books })
+}
+
+/// The findings of an accepted day's text; nothing where it is refused or has another form.
+fn read_lines(text: &str) -> Option<Vec<Line>> {
+    let lines: Vec<&str> = text.lines().collect();
+    let [head, findings @ .., last] = &lines[..] else { return None };
+    let is_whole = head.starts_with("AXD ") && *last == format!("findings {}", findings.len());
+    let found: Option<Vec<Line>> = findings.iter().map(|line| read_line(line)).collect();
+    found.filter(|_| is_whole)
+}
+
+/// Group, kind, family, total, sanction, contract.
+fn read_line(text: &str) -> Option<Line> {
+    let numbers: Vec<u16> = text.split(' ').map(str::parse).collect::<Result<_, _>>().ok()?;
+    let [group, kind, family, total, sanction, contract] = numbers[..] else { return None };
+    let [group, kind, family, sanction] = [group, kind, family, sanction].map(|n| u8::try_from(n).unwrap_or(0));
+    Some(Line { text: text.to_string(), finding: Finding { group, kind, family, sanction, total, contract } })
+}
+
+/// Each day's counts, as they are and joined. The joined ones are those that the join makes of the others.
+fn check_cells(year: &Year) -> Result<(Vec<Vec<u32>>, Vec<Vec<u32>>), String> {
+    let mut all = (Vec::new(), Vec::new());
+    for day in &year.days {
+        let refused = |refusal| format!("{}: the reference refuses: {refusal:?}", day.date);
+        let before = cells(day, &day.tables()).map_err(refused)?;
+        let after = cells(day, &joined(&day.tables(), year.a, year.b)).map_err(refused)?;
+        let wanted = joined_cells(year, day, before.clone());
+        if let Some(i) = (0..CELLS).find(|&i| after[i] != wanted[i]) {
+            return Err(format!("{}: count {i} is {} when joined and should be {}", day.date, after[i], wanted[i]));
+        }
+        all.0.push(before);
+        all.1.push(wanted);
+    }
+    Ok(all)
+}
+
+fn as_the_reference(year: &ThroughClerk, rulebook: u8, logs: &[Vec<u8>]) -> Result<(), String> {
+    let mut book = vec![0; book::LENGTH];
+    book::make_fresh(&mut book, rulebook);
+    for (k, log) in logs.iter().enumerate() {
+        let expected = clerk::clerk(Some(&book), &log[..]).map_err(|e| e.to_string())?;
+        let given = &year.texts[k];
+        if *given != expected.text {
+            return Err(format!("day {k}: reference {:?}, program {:?}", shortened(&expected.text), shortened(given)));
+        }
+        book = expected.book.ok_or_else(|| format!("day {k}: the reference refuses"))?;
+        if year.books[k] != book {
+            return Err(format!("day {k}: the book differs"));
+        }
+    }
+    Ok(())
+}
+
+/// The year by calls from a fresh book, over tables as given.
+fn year_script(year: &Year, tables: impl Fn(&Day) -> Vec<u8>) -> Script {
+    let mut script = Script::default();
+    script.book(book::LENGTH as u32);
+    script.fresh(year.rulebook as u64);
+    script.counts(CELLS as u32, 0);
+    script.findings(FINDINGS, 0);
+    for day in &year.days {
+        script.tables(&tables(day));
+        script.open();
+        for (record, times) in &day.records {
+            let bytes = record.bytes();
+            if *times == 1 {
+                script.take(&bytes);
+            } else {
+                script.take_often(*times, &bytes);
+            }
+        }
+        script.end(&end_record(day.taken()));
+    }
+    script
+}
+
+/// Replay answers as the reference does; and at each day's end the counts are those given.
+fn through_replay(programs: &Programs, scratch: &Path, script: &Script, counts: &[Vec<u32>]) -> Result<(), String> {
+    let words = programs.words(&programs.replay);
+    let output = run(command(&words, scratch), scratch, &script.0, Feed::Pipe).map_err(|e| e.to_string())?;
+    let text = String::from_utf8_lossy(&output.stdout);
+    let ends: Vec<&str> = text.lines().filter(|line| line.starts_with("e ")).collect();
+    for (k, cells) in counts.iter().enumerate() {
+        let line = ends.get(k).copied().unwrap_or("no line");
+        let sum = replay::counts_checksum(cells).to_string();
+        // e, 0, closed, then the checksums of book, counts and findings
+        if !line.starts_with("e 0 closed ") || line.split(' ').nth(4) != Some(&sum) {
+            return Err(format!("replay, end of day {k}: {line:?}, and the counts' checksum should be {sum}"));
+        }
+    }
+    if text != replay::replay(&script.0).text || !output.status.success() {
+        return Err(format!("replay differs from the reference; {}", output.status));
+    }
+    Ok(())
+}

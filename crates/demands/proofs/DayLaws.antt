@@ -30,7 +30,7 @@ use Rattle.desk.specs.Take.{callFault, planFault, recordFault, takeFault}
 use Rattle.desk.specs.Open.{bookFault, zeroed}
 use Rattle.desk.specs.Offences.{groupAt, kindAt, familyAt, familyOf, reachedAt, lowest, lowestOn, offendsOn}
 use Rattle.desk.specs.Findings.{laterYear, totalAfter, foundAt, findings, bookAfter, foundCount}
-use Rattle.desk.specs.End.{rowFault, cellsGood, inCells, countsFault, handedFault, endFault}
+use Rattle.desk.specs.End.{rowFault, cellsGood, inCells, countsFault, lentFault, endFault}
 use Rattle.demands.specs.Counts.{howMany, timesOf, timesOn}
 use Rattle.demands.specs.Paper.{dayIn, takeNumber, endRefusal}
 use Rattle.demands.proofs.CountLaws.{many-le, In, cell-there, cell-in, cell-is, raised-length, raised-at}
@@ -198,7 +198,7 @@ module _ (log : List ℕ) (rs : List Record) (c : List ℕ) (a : Agrees log rs c
   counts-are room = sym (pick-no _ _ _ _ (flip-no _ cells-good) (ap (λ (n : ℕ). pick (ltb room (8 * n)) 20 0) (sym count-is)))
 
   pub end-is : (row book out : List ℕ) → endFault (Open (dayIn log rs)) log row book c out ≡ endRefusal log rs row book (length out)
-  unfolding endFault handedFault endRefusal
+  unfolding endFault lentFault endRefusal
   end-is row book out =
       ap₂ orElse (ap (λ (n : ℕ). orElse n (orElse (rowFault (dayIn log rs) row) (bookFault (headerOf log) book))) (call-is row)) (counts-are (length out))
       ∙ or-assoc (pick (not (eqb (length row) 20)) 1 0) _ _ ∙ or-pick (not (eqb (length row) 20)) 1 _ (λ e. omega arith)

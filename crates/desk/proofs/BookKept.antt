@@ -27,7 +27,7 @@ use Rattle.desk.specs.Take.{callFault}
 use Rattle.desk.specs.Open.{bookFault}
 use Rattle.desk.specs.Offences.{familyOf, reachedAt, lowest, lowestOn, offendsOn}
 use Rattle.desk.specs.Findings.{laterYear, totalAfter, bookAfter}
-use Rattle.desk.specs.End.{endFault, handedFault, rowFault, inCells}
+use Rattle.desk.specs.End.{endFault, lentFault, rowFault, inCells}
 use Rattle.desk.proofs.EndLaws.{handed}
 
 -- a ladder that must stay 0: rulebook 1, families 2 to 15
@@ -130,9 +130,9 @@ unfolding tablesOf tablesIn
 tables-rulebook log = refl
 
 ending : (day : Day) (log row book c out : List ℕ) → endFault (Open day) log row book c out ≡ 0 → Ending day log book
-unfolding endFault handedFault bookFault
+unfolding endFault lentFault bookFault
 ending day log row book c out e =
-    let e0 = or-none (handedFault day log row book (length c)) _ e in
+    let e0 = or-none (lentFault day log row book (length c)) _ e in
     let h = handed day log row book (length c) (e0 .0) in
     let e1 = or-none (callFault day log row (length c)) _ (e0 .0) in
     let e2 = or-none (rowFault day row) _ (e1 .1) in

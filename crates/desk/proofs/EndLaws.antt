@@ -25,7 +25,7 @@ use Rattle.desk.specs.declared.state.Day.{Day}
 use Rattle.desk.specs.declared.state.State.the-variants.{Closed}
 use Rattle.desk.specs.declared.end.Ended.{Ended}
 use Rattle.desk.specs.declared.end.Ended.the-variants.{Done, Refused}
-use Rattle.desk.specs.End.{inCells, rowFault, handedFault, Ends}
+use Rattle.desk.specs.End.{inCells, rowFault, lentFault, Ends}
 use Rattle.desk.specs.Take.{callFault}
 use Rattle.desk.specs.Open.{bookFault}
 use Rattle.desk.proofs.TableLaws.{sound-call, room-called}
@@ -135,8 +135,8 @@ pub record Handed (day : Day) (log book : List ℕ) (room : ℕ) : Type 0 where
   pub book-long : length book ≡ 12304
   pub counts-long : 12288 ≤ room
 
-pub handed : (day : Day) (log row book : List ℕ) (room : ℕ) → handedFault day log row book room ≡ 0 → Handed day log book room
-unfolding handedFault bookFault
+pub handed : (day : Day) (log row book : List ℕ) (room : ℕ) → lentFault day log row book room ≡ 0 → Handed day log book room
+unfolding lentFault bookFault
 handed day log row book room e =
     let e1 = or-none (callFault day log row room) _ e in
     let e2 = or-none (rowFault day row) _ (e1 .1) in

@@ -50,13 +50,13 @@ countsFault day t c room =
     0)
 
 -- the refusals of what the call is handed, in their order
-unfoldable pub handedFault : Day → (log row book : List ℕ) → ℕ → ℕ
-handedFault day log row book room = orElse (callFault day log row room) (orElse (rowFault day row) (bookFault (day .head) book))
+unfoldable pub lentFault : Day → (log row book : List ℕ) → ℕ → ℕ
+lentFault day log row book room = orElse (callFault day log row room) (orElse (rowFault day row) (bookFault (day .head) book))
 
 unfoldable pub endFault : State → (log row book c out : List ℕ) → ℕ
 endFault Closed log row book c out = 10
 endFault (Open day) log row book c out =
-    orElse (handedFault day log row book (length c)) (countsFault day (tablesOf log) c (length out))
+    orElse (lentFault day log row book (length c)) (countsFault day (tablesOf log) c (length out))
 
 -- the date of an open day, 0 where none is open
 abbrev pub dateOf : State → ℕ

@@ -29,7 +29,7 @@ ghost use Rattle.daylog.specs.Header.{headerOf};
 ghost use Rattle.daylog.specs.Sound.{Sound};
 ghost use Rattle.daylog.specs.Entries.{entries};
 ghost use Rattle.daylog.specs.Tables.{tablesOf};
-ghost use Rattle.desk.specs.End.{endGood, rowFault, handedFault, countsFault, DayEnds, EndGives};
+ghost use Rattle.desk.specs.End.{endGood, rowFault, lentFault, countsFault, DayEnds, EndGives};
 ghost use Rattle.desk.specs.Listing.{familiesIn, placesIn, hits, totalBytes, DayWritten};
 
 pub enum Ended {
@@ -64,7 +64,7 @@ fn row_fault(day: Day, row: &[u8]) -> u32
 
 // What the call is handed: the record, the buffers, the tables, the book.
 fn handed_fault(day: Day, log: &[u8], row: &[u8], book: &[u8], room: usize) -> u32
-    ensures { λ r. ⌜ r ≡ handedFault day (now (log .entry)) (now (row .entry)) (now (book .entry)) room ⌝ }
+    ensures { λ r. ⌜ r ≡ lentFault day (now (log .entry)) (now (row .entry)) (now (book .entry)) room ⌝ }
 {
     let first = call_fault(day, log, row, room);
     if first != 0 {

@@ -1,8 +1,8 @@
 -- The cells are the counts: what a record raises is what it counts for. Assumes nothing.
 use mathlib.Core.Path.{_≡_, refl, sym, ap, _∙_}
 use mathlib.Core.Bool.{Bool, true, false, _&&_, and-false}
-use mathlib.Core.List.{List, [], _∷_}
-use Prim.Native.Nat.{ℕ, zero, suc, _+_, _-_, _/_, _%_, _≤_, _<_, zero-le}
+use mathlib.Core.List.{List}
+use Prim.Native.Nat.{ℕ, zero, suc, _+_, _-_, _/_, _%_, _≤_, _<_}
 use native.Mathlib.Nat.{add-zero}
 use native.Mathlib.Omega.{arith}
 use borrow.Author.Tests.{eqb-true, eqb-false, eq-eqb}
@@ -10,17 +10,10 @@ use lib.Dec.{eqb}
 use lib.ListN.{length, getD, set, length-set}
 use lib.Seq.{getD-set-same, getD-set-other}
 use Rattle.wire.specs.Choice.{pick}
-use Rattle.wire.proofs.ChoiceLaws.{pick-le, and-left, and-right, and-yes, same-test}
+use Rattle.wire.proofs.ChoiceLaws.{and-left, and-right, and-yes, same-test}
 use Rattle.desk.specs.declared.judge.Plan.{Plan}
 use Rattle.desk.specs.Counting.{counted}
 use Rattle.desk.specs.Cells.{cellOf, cellFor, bumped, raisedFor, raised}
-use Rattle.demands.specs.Counts.{howMany}
-
--- ---- how many
-pub many-le : {A : Type 0} (test : A → Bool) (xs : List A) → howMany test xs ≤ length xs
-unfolding howMany
-many-le test [] = zero-le
-many-le test (x ∷ xs) = omega (arith, many-le test xs, pick-le (test x) 1 0 1 (omega arith) (omega arith))
 
 -- ---- cells
 pub record In (group kind place : ℕ) : Type 0 where

@@ -5,12 +5,12 @@ use mathlib.Core.Bool.{Bool, true, false, not, _&&_, and-false}
 use mathlib.Core.List.{List, [], _∷_, _++_}
 use Prim.Native.Nat.{ℕ, _+_, _*_, _/_, _%_, _≤_, _<_}
 use native.Mathlib.Omega.{arith}
-use borrow.Author.Tests.{le-leb, le-ltb, eq-eqb, eqb-true, eqb-false}
+use borrow.Author.Tests.{le-leb, le-ltb, eq-eqb}
 use lib.Dec.{leb, ltb, eqb}
 use lib.ListN.{length, getD, drop, replicate, length-append, length-replicate, length-drop, getD-replicate, List·getD-append}
 use Rattle.wire.specs.Choice.{pick, orElse}
 use Rattle.wire.specs.Bytes.{bytes}
-use Rattle.wire.proofs.ChoiceLaws.{pick-no, or-else, or-first, flip-no}
+use Rattle.wire.proofs.ChoiceLaws.{or-pick, or-assoc, or-after, pick-no, flip-no}
 use Rattle.wire.proofs.PlaceLaws.{every-all, count-cong, first-cong}
 use Rattle.wire.proofs.BufferLaws.{rows-cong}
 use Rattle.rules.specs.Measure.{times, enough, reached}
@@ -33,31 +33,9 @@ use Rattle.desk.specs.Findings.{laterYear, totalAfter, foundAt, findings, bookA
 use Rattle.desk.specs.End.{rowFault, cellsGood, inCells, countsFault, lentFault, endFault}
 use Rattle.demands.specs.Counts.{howMany, timesOf, timesOn}
 use Rattle.demands.specs.Paper.{dayIn, takeNumber, endRefusal}
-use Rattle.demands.proofs.CountLaws.{many-le, In, cell-there, cell-in, cell-is, raised-length, raised-at}
+use Rattle.demands.proofs.CountLaws.{In, cell-there, cell-in, cell-is, raised-length, raised-at}
+use Rattle.demands.proofs.ManyLaws.{many-le}
 use Rattle.demands.proofs.TableLaws.{known-tables, has-record, placed}
-
--- ---- chains of refusals
-or-pick : (t : Bool) (n r : ℕ) → (n ≡ 0 → ⊥) → orElse (pick t n 0) r ≡ pick t n r
-unfolding pick
-or-pick true n r h = or-first n r h
-or-pick false n r h = or-else 0 r refl
-
-or-assoc : (a b c : ℕ) → orElse (orElse a b) c ≡ orElse a (orElse b c)
-or-assoc a b c = go (eqb a 0) refl
-  where
-    go : (t : Bool) → eqb a 0 ≡ t → orElse (orElse a b) c ≡ orElse a (orElse b c)
-    go true e = let z = eqb-true a 0 e in ap (λ (n : ℕ). orElse n c) (or-else a b z) ∙ sym (or-else a (orElse b c) z)
-    go false e =
-        let n = eqb-false a 0 e in
-        ap (λ (m : ℕ). orElse m c) (or-first a b n) ∙ or-first a c n ∙ sym (or-first a (orElse b c) n)
-
--- what comes after matters only where nothing came before
-or-after : (a b c : ℕ) → (a ≡ 0 → b ≡ c) → orElse a b ≡ orElse a c
-or-after a b c h = go (eqb a 0) refl
-  where
-    go : (t : Bool) → eqb a 0 ≡ t → orElse a b ≡ orElse a c
-    go true e = ap (orElse a) (h (eqb-true a 0 e))
-    go false e = let n = eqb-false a 0 e in or-first a b n ∙ sym (or-first a c n)
 
 pub record Agrees (log : List ℕ) (rs : List Record) (c : List ℕ) : Type 0 where
   pub sound : logFault log ≡ 0

@@ -2,15 +2,15 @@
 -- Assumes nothing.
 use mathlib.Core.Path.{_≡_, refl, sym, ap, ap₂, _∙_}
 use mathlib.Core.Bool.{Bool, true, false, _&&_, _||_, not, and-false}
-use mathlib.Core.List.{List, [], _∷_}
+use mathlib.Core.List.{List}
 use Prim.Native.Nat.{ℕ, zero, suc, _+_, _≤_}
 use native.Mathlib.Omega.{arith}
-use borrow.Author.Tests.{eqb-true, eqb-false, eq-eqb, ne-eqb, leb-true, le-leb, lt-leb, not-true}
+use borrow.Author.Tests.{eqb-true, eqb-false, eq-eqb, ne-eqb, leb-true, le-leb, lt-leb}
 use lib.Dec.{ltb, eqb}
 use Rattle.wire.specs.Choice.{pick}
-use Rattle.wire.specs.Places.{every, some, first}
-use Rattle.wire.proofs.ChoiceLaws.{pick-yes, pick-no, and-left, and-right, and-yes, and-no-right, same-test, flip-yes, flip-no}
-use Rattle.wire.proofs.PlaceLaws.{every-at, every-all, every-cong, first-cong}
+use Rattle.wire.specs.Places.{some, first}
+use Rattle.wire.proofs.ChoiceLaws.{pick-yes, pick-no, and-left, and-right, and-yes, and-no-right, same-test}
+use Rattle.wire.proofs.PlaceLaws.{some-cong, some-none, some-more, first-cong}
 use Rattle.rules.specs.Choices.{byThree}
 use Rattle.rules.specs.Measure.{never, times, enough, reached}
 use Rattle.daylog.specs.declared.contracts.Contract.{Contract}
@@ -21,61 +21,9 @@ use Rattle.desk.specs.Counting.{accountOf, contractOf, hasAccount, hasContract,
 use Rattle.desk.specs.Judging.{tableFault}
 use Rattle.desk.specs.Offences.{familyOf}
 use Rattle.desk.specs.Findings.{memberOn}
-use Rattle.demands.specs.Counts.{howMany, timesOf, reachesOn, offence}
+use Rattle.demands.specs.Counts.{timesOf, reachesOn, offence}
 use Rattle.demands.specs.Join.{joined, Joined, betweenFor, between}
-
--- ---- general laws: how many of a list pass
-module _ {A : Type 0} where
-  pub many-cong : (p q : A → Bool) (xs : List A) → ((x : A) → p x ≡ q x) → howMany p xs ≡ howMany q xs
-  unfolding howMany
-  many-cong p q [] h = refl
-  many-cong p q (x ∷ xs) h = ap₂ (λ (t : Bool) (n : ℕ). pick t 1 0 + n) (h x) (many-cong p q xs h)
-
-  pub many-none : (p : A → Bool) (xs : List A) → ((x : A) → p x ≡ false) → howMany p xs ≡ 0
-  unfolding howMany
-  many-none p [] h = refl
-  many-none p (x ∷ xs) h = omega (arith, pick-no {A = ℕ} (p x) 0 1 0 (h x) refl, many-none p xs h)
-
-  -- a test that is two, or three, of which one at most holds
-  pub many-two : (p q r : A → Bool) (xs : List A) → ((x : A) → pick (p x) 1 0 ≡ pick (q x) 1 0 + pick (r x) 1 0)
-      → howMany p xs ≡ howMany q xs + howMany r xs
-  unfolding howMany
-  many-two p q r [] h = refl
-  many-two p q r (x ∷ xs) h = omega (arith, h x, many-two p q r xs h)
-
-  pub many-three : (p q r s : A → Bool) (xs : List A)
-      → ((x : A) → pick (p x) 1 0 ≡ pick (q x) 1 0 + pick (r x) 1 0 + pick (s x) 1 0)
-      → howMany p xs ≡ howMany q xs + howMany r xs + howMany s xs
-  unfolding howMany
-  many-three p q r s [] h = refl
-  many-three p q r s (x ∷ xs) h = omega (arith, h x, many-three p q r s xs h)
-
--- ---- general laws: whether some number passes
-pub some-cong : (p q : ℕ → Bool) (n : ℕ) → ((k : ℕ) → p k ≡ q k) → some p n ≡ some q n
-unfolding some
-some-cong p q n h = ap not (every-cong (λ k. not (p k)) (λ k. not (q k)) n (λ k l. ap not (h k)))
-
-pub some-none : (p : ℕ → Bool) (n : ℕ) → ((k : ℕ) → p k ≡ false) → some p n ≡ false
-unfolding some
-some-none p n h = flip-no _ (every-all (λ k. not (p k)) n (λ k l. flip-yes _ (h k)))
-
-pub some-more : (p q : ℕ → Bool) (n : ℕ) → ((k : ℕ) → p k ≡ true → q k ≡ true) → some p n ≡ true → some q n ≡ true
-unfolding some
-some-more p q n h e = go (every (λ k. not (q k)) n) refl
-  where
-    none : (k : ℕ) → q k ≡ false → not (p k) ≡ true
-    none k f = go (p k) refl
-      where
-        go : (t : Bool) → p k ≡ t → not (p k) ≡ true
-        go true g = let y : true ≡ false = sym (h k g) ∙ f in cc
-        go false g = flip-yes _ g
-
-    go : (t : Bool) → every (λ k. not (q k)) n ≡ t → not (every (λ k. not (q k)) n) ≡ true
-    go false f = flip-yes _ f
-    go true f =
-        let all : every (λ k. not (p k)) n ≡ true = every-all (λ k. not (p k)) n (λ k l. none k (not-true _ (every-at (λ k. not (q k)) n k f l))) in
-        let y : false ≡ true = sym (flip-no _ all) ∙ e in
-        cc
+use Rattle.demands.proofs.ManyLaws.{many-cong, many-none, many-two, many-three}
 
 -- ---- general laws: tests
 -- two numbers that are one, which is a third: both are the third

@@ -1,3 +1,4 @@
+pub mod ManyLaws
 pub mod CountLaws
 pub mod TableLaws
 pub mod DayLaws

@@ -1,14 +1,14 @@
 -- Which numbers a call by the rules can have: never 19, and never 17 on a sound book. Assumes nothing.
 use mathlib.Core.Path.{_≡_, refl, sym, _∙_}
-use mathlib.Core.Bool.{Bool, true, false, not}
+use mathlib.Core.Bool.{true, not}
 use mathlib.Core.List.{List}
 use Prim.Native.Nat.{ℕ, _≤_, _<_}
 use native.Mathlib.Omega.{arith}
 use borrow.Author.Tests.{eq-eqb}
 use lib.Dec.{eqb}
 use lib.ListN.{length}
-use Rattle.wire.specs.Choice.{pick, orElse}
-use Rattle.wire.proofs.ChoiceLaws.{pick-le, pick-no, flip-no}
+use Rattle.wire.specs.Choice.{pick}
+use Rattle.wire.proofs.ChoiceLaws.{pick-not, or-not, pick-le, pick-no, flip-no}
 use Rattle.book.specs.Fresh.{freshNumber, freshFault, freshAnswer}
 use Rattle.book.specs.Ask.{askNumber, askFault, askAnswer}
 use Rattle.book.specs.Sound.{sound}
@@ -72,16 +72,7 @@ number-is p (during log rs) (takeRecord row) = answered-number _ _
 number-is p (during log rs) (endDay row) = end-number (endRefusal log rs row (p .book) (length (p .out))) _
 number-is p (during log rs) abandonDay = answered-number 0 _
 
--- ---- chains
-pick-not : (t : Bool) (n r m : ℕ) → (n ≡ m → ⊥) → (r ≡ m → ⊥) → pick t n r ≡ m → ⊥
-unfolding pick
-pick-not true n r m a b e = a e
-pick-not false n r m a b e = b e
-
-or-not : (a b m : ℕ) → (a ≡ m → ⊥) → (b ≡ m → ⊥) → orElse a b ≡ m → ⊥
-unfolding orElse
-or-not a b m x y e = pick-not (eqb a 0) b a m y x e
-
+-- ---- how high the numbers go
 pub log-most : (log : List ℕ) → logFault log ≤ 8
 unfolding logFault headFault tablesFault
 log-most log =

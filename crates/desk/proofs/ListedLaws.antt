@@ -1,16 +1,17 @@
 -- Laws of the list of findings: what the writes leave, one more where a ladder has an offence, how long it is. Assumes nothing.
-use mathlib.Core.Path.{_≡_, refl, sym, ap, ap₂, _∙_}
+use mathlib.Core.Path.{_≡_, refl, sym, ap, _∙_}
 use mathlib.Core.Bool.{Bool, true, false}
 use mathlib.Core.List.{List, []}
-use Prim.Native.Nat.{ℕ, zero, suc, _+_, _*_, _%_, _<_, _≤_, zero-le}
-use native.Mathlib.Nat.{add-zero, mul-add}
+use Prim.Native.Nat.{ℕ, _+_, _*_, _%_, _<_, _≤_, zero-le}
+use native.Mathlib.Nat.{add-zero}
 use native.Mathlib.Omega.{arith}
-use lib.ListN.{length, set, length-append}
+use lib.ListN.{length, set}
 use Rattle.wire.specs.Choice.{pick}
 use Rattle.wire.specs.Places.{count}
 use Rattle.wire.specs.Bytes.{bytes}
 use Rattle.wire.specs.Buffers.{put, putIn, rows}
 use Rattle.wire.proofs.ChoiceLaws.{pick-yes, pick-no}
+use Rattle.wire.proofs.KeptLaws.{kept-length}
 use Rattle.wire.proofs.PlaceLaws.{count-more, count-up}
 use Rattle.wire.proofs.BufferLaws.{put-four, put-none, then, rows-more}
 use Rattle.daylog.specs.Entries.{entries}
@@ -52,11 +53,6 @@ count-room p n l k m m′ e h w q = omega (arith, count-up p (l + 1) k (omega ar
 pub same-group : (l : ℕ) → ((l + 1) % 48 ≡ 0 → ⊥) → groupAt (l + 1) ≡ groupAt l
 same-group l n = omega arith
 
-length-if : (t : Bool) (ladder sanction total id : ℕ) → length (pick t (finding ladder sanction total id) []) ≡ 8 * pick t 1 0
-unfolding pick finding bytes
-length-if true ladder sanction total id = refl
-length-if false ladder sanction total id = refl
-
 module _ (rulebook : ℕ) (later : Bool) (contracts accounts places book : List ℕ) where
   abbrev found : ℕ → List ℕ
   found = foundWith rulebook later contracts accounts places book
@@ -66,11 +62,8 @@ module _ (rulebook : ℕ) (later : Bool) (contracts accounts places book : List 
 
   -- the findings of the first n ladders have 8 bytes each
   pub found-length : (n : ℕ) → length (rows found n) ≡ 8 * count hit n
-  unfolding rows count foundWith foundBy
-  found-length zero = refl
-  found-length (suc n) =
-      length-append (rows found n) (found n) ∙ ap₂ (λ (x y : ℕ). x + y) (found-length n) (length-if (hit n) n _ _ _)
-      ∙ sym (mul-add 8 (count hit n) (pick (hit n) 1 0))
+  unfolding foundWith foundBy finding bytes
+  found-length n = kept-length hit _ 8 (λ l. refl) n
 
   -- a turn of `list_all`
   pub found-turn : (s r r′ : List ℕ) (n l : ℕ) (member : Bool) → n ≡ count hit l → r ≡ put s 0 (rows found l)

@@ -1,5 +1,5 @@
 -- Laws of a choice by a test, and the set that proves each return of a chain of early returns. Assumes nothing.
-use mathlib.Core.Path.{_≡_, refl, sym, _∙_}
+use mathlib.Core.Path.{_≡_, refl, sym, ap, _∙_}
 use mathlib.Core.Bool.{Bool, true, false, not, _&&_, _||_, and-false}
 use Prim.Native.Nat.{ℕ, _≤_, _<_}
 use native.Mathlib.Omega.{arith}
@@ -90,6 +90,38 @@ or-none a b e = go (eqb a 0) refl
     go : (t : Bool) → eqb a 0 ≡ t → (a ≡ 0) × (b ≡ 0)
     go true q = let z : a ≡ 0 = eqb-true a 0 q in (z, sym (or-else a b z) ∙ e)
     go false q = let n : a ≡ 0 → ⊥ = eqb-false a 0 q in absurd (n (sym (or-first a b n) ∙ e))
+
+pub or-pick : (t : Bool) (n r : ℕ) → (n ≡ 0 → ⊥) → orElse (pick t n 0) r ≡ pick t n r
+unfolding pick
+or-pick true n r h = or-first n r h
+or-pick false n r h = or-else 0 r refl
+
+pub or-assoc : (a b c : ℕ) → orElse (orElse a b) c ≡ orElse a (orElse b c)
+or-assoc a b c = go (eqb a 0) refl
+  where
+    go : (t : Bool) → eqb a 0 ≡ t → orElse (orElse a b) c ≡ orElse a (orElse b c)
+    go true e = let z = eqb-true a 0 e in ap (λ (n : ℕ). orElse n c) (or-else a b z) ∙ sym (or-else a (orElse b c) z)
+    go false e =
+        let n = eqb-false a 0 e in
+        ap (λ (m : ℕ). orElse m c) (or-first a b n) ∙ or-first a c n ∙ sym (or-first a (orElse b c) n)
+
+-- what comes after matters only where nothing came before
+pub or-after : (a b c : ℕ) → (a ≡ 0 → b ≡ c) → orElse a b ≡ orElse a c
+or-after a b c h = go (eqb a 0) refl
+  where
+    go : (t : Bool) → eqb a 0 ≡ t → orElse a b ≡ orElse a c
+    go true e = ap (orElse a) (h (eqb-true a 0 e))
+    go false e = let n = eqb-false a 0 e in or-first a b n ∙ sym (or-first a c n)
+
+-- a number that no link of a chain has
+pub pick-not : (t : Bool) (n r m : ℕ) → (n ≡ m → ⊥) → (r ≡ m → ⊥) → pick t n r ≡ m → ⊥
+unfolding pick
+pick-not true n r m a b e = a e
+pick-not false n r m a b e = b e
+
+pub or-not : (a b m : ℕ) → (a ≡ m → ⊥) → (b ≡ m → ⊥) → orElse a b ≡ m → ⊥
+unfolding orElse
+or-not a b m x y e = pick-not (eqb a 0) b a m y x e
 
 -- what a call answered, r for the test t, and how its answer was asked for
 pub told : (t r v : Bool) → r ≡ t → r ≡ v → t ≡ v

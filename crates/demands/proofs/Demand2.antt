@@ -4,7 +4,7 @@ use mathlib.Core.Logic.{_⊎_, inl, inr}
 use mathlib.Core.Bool.{Bool, true, false}
 use mathlib.Core.List.{List, [], _∷_, map}
 use Prim.Native.Nat.{ℕ}
-use borrow.Author.Tests.{eqb-true, le-leb}
+use borrow.Author.Tests.{eqb-true, eq-eqb, le-leb}
 use lib.Dec.{leb, eqb, lit<}
 use lib.ListN.{length}
 use Rattle.wire.specs.Choice.{pick, within}
@@ -24,7 +24,7 @@ use Rattle.demands.specs.Days.{Ended, offenceDays, lastOf, bookOver}
 use Rattle.demands.specs.Calls.{Call, makeBook, openDay, takeRecord, endDay, abandonDay, askBook, Reply, numberIn, Desk, Given, Ran, none, next}
 use Rattle.demands.specs.Paper.{during, Paper, dayIn, endRefusal, endRuled, openRuled, takeRuled, rule, rules}
 use Rattle.demands.specs.Logs.{front, rowsOf, recordsIn, logNumber, dayBook, ruledFile, ruledLogs}
-use Rattle.demands.specs.Demand2.{Seen, seen, ruled, begun, CallsRuled, None, none as nothing, more, NeverChanged, NeverUnsound, FindingsListed, History, recorded, history, left, BookOfDays, TotalsCounted, LogsRuled, AlwaysAnswered, AlwaysRead, logDays, lastFile, FileOfDays}
+use Rattle.demands.specs.Demand2.{Seen, seen, ruled, begun, CallsRuled, None, none as nothing, more, NeverChanged, NeverUnsound, FindingsListed, History, recorded, history, left, FreshIsOfNone, BookOfDays, TotalsCounted, LogsRuled, AlwaysAnswered, AlwaysRead, logDays, lastFile, FileOfDays}
 use Rattle.demands.proofs.CallLaws.{Stands, rest, busy, step, stands-book, stands-out, handed-parts, desk, paper}
 use Rattle.demands.proofs.ListedLaws.{findings-list}
 use Rattle.demands.proofs.NumberLaws.{number-is, never-19, never-17}
@@ -146,9 +146,9 @@ made-known len rulebook e =
     let m = made len rulebook e in
     and-yes (leb 1 rulebook) (leb rulebook 2) (le-leb 1 rulebook (m .first-rulebook)) (le-leb rulebook 2 (m .last-rulebook))
 
-fresh-is : (book : List ℕ) (rulebook : ℕ) → eqb (freshFault (length book) rulebook) 0 ≡ true → freshBook book rulebook ≡ bookOver rulebook []
+pub fresh-is-of-none : FreshIsOfNone
 unfolding freshBook bookOver offenceDays howMany lastOf
-fresh-is book rulebook e = sym (pick-yes _ _ _ _ e refl)
+fresh-is-of-none book rulebook e = sym (pick-yes _ _ _ _ (eq-eqb _ 0 e) refl)
 
 pub holds-fresh : (h : History) (book : List ℕ) (rulebook : ℕ) → Holds h book
     → Holds (pick (eqb (freshFault (length book) rulebook) 0) (record { rulebook = rulebook; days = [] }) h) (freshBook book rulebook)
@@ -158,7 +158,7 @@ holds-fresh h book rulebook k = go (eqb (freshFault (length book) rulebook) 0) r
         → Holds (pick (eqb (freshFault (length book) rulebook) 0) (record { rulebook = rulebook; days = [] }) h) (freshBook book rulebook)
     go true e =
         subst (λ (q : History). Holds q (freshBook book rulebook)) (pick-yes _ _ _ _ e refl)
-        (subst (Kept rulebook []) (sym (fresh-is book rulebook e)) (kept-none rulebook (made-known (length book) rulebook (eqb-true _ 0 e))))
+        (subst (Kept rulebook []) (sym (fresh-is-of-none book rulebook (eqb-true _ 0 e))) (kept-none rulebook (made-known (length book) rulebook (eqb-true _ 0 e))))
     go false e =
         subst (λ (q : History). Holds q (freshBook book rulebook)) (pick-no _ _ _ _ e refl)
         (subst (Kept (h .rulebook) (h .days)) (sym (kept-fresh book rulebook e)) k)

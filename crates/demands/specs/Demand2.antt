@@ -10,7 +10,7 @@ use lib.Dec.{eqb}
 use lib.ListN.{length}
 use Rattle.wire.specs.Choice.{pick}
 use Rattle.calendar.specs.Dates.{year}
-use Rattle.book.specs.Fresh.{freshFault}
+use Rattle.book.specs.Fresh.{freshFault, freshBook}
 use Rattle.book.specs.Layout.{ladders, lastDate, totalAt}
 use Rattle.book.specs.Sound.{sound}
 use Rattle.daylog.specs.declared.record.Record.{Record}
@@ -97,6 +97,10 @@ history p h (c ∷ cs) = history (rule p (p .course) c .after) (recorded p (p .c
 unfoldable pub left : Desk → List Given → Desk
 left w [] = w
 left w (g ∷ gs) = left (g .after) gs
+
+-- a fresh book is the book of no days
+abbrev pub FreshIsOfNone : Type 0
+FreshIsOfNone = (book : List ℕ) (rulebook : ℕ) → freshFault (length book) rulebook ≡ 0 → freshBook book rulebook ≡ bookOver rulebook []
 
 -- from a fresh book on, the book as bytes is that of the days that were ended: nothing else goes into it
 abbrev pub BookOfDays : Type 0

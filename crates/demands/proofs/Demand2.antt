@@ -24,7 +24,7 @@ use Rattle.demands.specs.Days.{Ended, offenceDays, lastOf, bookOver}
 use Rattle.demands.specs.Calls.{Call, makeBook, openDay, takeRecord, endDay, abandonDay, askBook, Reply, numberIn, Desk, Given, Ran, none, next}
 use Rattle.demands.specs.Paper.{during, Paper, dayIn, endRefusal, endRuled, openRuled, takeRuled, rule, rules}
 use Rattle.demands.specs.Logs.{front, rowsOf, recordsIn, logNumber, dayBook, ruledFile, ruledLogs}
-use Rattle.demands.specs.Demand2.{Seen, seen, ruled, begun, CallsRuled, None, none as nothing, more, NeverChanged, NeverUnsound, FindingsListed, History, recorded, history, left, FreshIsOfNone, BookOfDays, TotalsCounted, LogsRuled, AlwaysAnswered, AlwaysRead, logDays, lastFile, FileOfDays}
+use Rattle.demands.specs.Demand2.{Seen, seen, ruled, begun, CallsRuled, None, none as nothing, more, NeverChanged, NeverUnsound, FindingsListed, History, recorded, history, left, FreshIsOfNone, FreshRun, since, BookOfDays, TotalsCounted, LogsRuled, AlwaysAnswered, AlwaysRead, logDays, lastFile, FileOfDays}
 use Rattle.demands.proofs.CallLaws.{Stands, rest, busy, step, stands-book, stands-out, handed-parts, desk, paper}
 use Rattle.demands.proofs.ListedLaws.{findings-list}
 use Rattle.demands.proofs.NumberLaws.{number-is, never-19, never-17}
@@ -133,7 +133,7 @@ never-unsound w cs gs e good r = all (begins w e) good r
         more (λ q. never-17 p (p .course) c good (sym (number-is p (p .course) c) ∙ ap numberIn (sym (t .reply)) ∙ q)) (all (t .after) (sound-step s good c) r)
 
 -- ---- totals
-pub one-of : (rulebook : ℕ) → (rulebook ≡ 1) ⊎ (rulebook ≡ 2) → within 1 2 rulebook ≡ true
+one-of : (rulebook : ℕ) → (rulebook ≡ 1) ⊎ (rulebook ≡ 2) → within 1 2 rulebook ≡ true
 one-of rulebook (inl e) = rw e
 one-of rulebook (inr e) = rw e
 
@@ -181,6 +181,9 @@ holds-step h (busy {log} {c} {book} {out} {rs} {room} n a) k (endDay row) =
     choose (eqb (endRefusal log rs row book (length out)) 0) _ h _ (paper (during log rs) book out room)
     (λ e. kept-day (h .rulebook) (h .days) log book rs k (end-ready log rs row book (length out) (a .sound) (eqb-true _ 0 e))) k
 
+pub begun-kept : (rulebook : ℕ) (w : Desk) (cs : List Call) (gs : List Given) → FreshRun rulebook w cs gs → Kept rulebook [] (w .book)
+begun-kept rulebook w cs gs r = subst (Kept rulebook []) (sym (r .fresh)) (kept-none rulebook (one-of rulebook (r .known)))
+
 holds-run : {w : Desk} {p : Paper} {cs : List Call} {gs : List Given} (h : History) → Stands w p → Holds h (p .book) → Ran w cs gs
     → Holds (history p h cs) (left w gs .book)
 unfolding left history
@@ -188,19 +191,17 @@ holds-run h s k none = subst (Kept (h .rulebook) (h .days)) (sym (stands-book s)
 holds-run {p = p} h s k (next {c = c} g r) = holds-run (recorded p (p .course) c h) (step s g .after) (holds-step h s k c) r
 
 -- what a run from a fresh book leaves
-pub fresh-run : (w : Desk) (rulebook : ℕ) (cs : List Call) (gs : List Given) → w .state ≡ Closed → (rulebook ≡ 1) ⊎ (rulebook ≡ 2)
-    → w .book ≡ bookOver rulebook [] → Ran w cs gs → Holds (history (begun w) (record { rulebook = rulebook; days = [] }) cs) (left w gs .book)
-fresh-run w rulebook cs gs e one b r =
-    holds-run (record { rulebook = rulebook; days = [] }) (begins w e) (subst (Kept rulebook []) (sym b) (kept-none rulebook (one-of rulebook one))) r
+pub fresh-run : (rulebook : ℕ) (w : Desk) (cs : List Call) (gs : List Given) → FreshRun rulebook w cs gs → Holds (since rulebook w cs) (left w gs .book)
+fresh-run rulebook w cs gs r =
+    holds-run (record { rulebook = rulebook; days = [] }) (begins w (r .closed)) (begun-kept rulebook w cs gs r) (r .ran)
 
 pub book-of-days : BookOfDays
-book-of-days w rulebook cs gs e one b r = fresh-run w rulebook cs gs e one b r .is
+book-of-days rulebook w cs gs r = fresh-run rulebook w cs gs r .is
 
 pub totals-counted : TotalsCounted
-totals-counted w rulebook cs gs e one b r l h =
-    let k = fresh-run w rulebook cs gs e one b r in
-    let days = history (begun w) (record { rulebook = rulebook; days = [] }) cs .days in
-    total-was _ _ _ k l h ∙ ap (λ (n : ℕ). offenceDays (year n) l days) (sym (last-is _ _ _ k))
+totals-counted rulebook w cs gs r l h =
+    let k = fresh-run rulebook w cs gs r in
+    total-was _ _ _ k l h ∙ ap (λ (n : ℕ). offenceDays (year n) l (since rulebook w cs .days)) (sym (last-is _ _ _ k))
 
 -- ---- day logs
 pub logs-ruled : LogsRuled

@@ -12,17 +12,17 @@ use Rattle.calendar.specs.Dates.{year}
 use Rattle.book.specs.Layout.{ladderOf, totalAt}
 use Rattle.desk.specs.Offences.{groupAt, kindAt, familyAt}
 use Rattle.demands.specs.Counts.{howMany, offence}
-use Rattle.demands.specs.Days.{Ended, lastOf, offenceOn, offenceDays, bookOver}
+use Rattle.demands.specs.Days.{Ended, lastOf, offenceOn, offenceDays}
 use Rattle.demands.specs.Calls.{Call, numberIn, Desk, Given, Ran, none as no-call, next}
 use Rattle.demands.specs.Paper.{Paper}
-use Rattle.demands.specs.Demand2.{begun, History, history, left}
+use Rattle.demands.specs.Demand2.{begun, History, left, since}
 use Rattle.demands.specs.Join.{Joined}
 use Rattle.demands.specs.Restrictions.{restrictions}
 use Rattle.demands.specs.Demand3.{joinCall, Accepted, none, more, Run, daysOf, ChecksSame, AcceptedAgain, DaysJoined, SameDays, CountsAdd, OffencesStay, InYear, NothingLost, SanctionsFound, OthersKept}
 use Rattle.demands.proofs.CallLaws.{Stands, step}
 use Rattle.demands.proofs.NumberLaws.{number-is}
-use Rattle.demands.proofs.TotalLaws.{OfRulebook, Kept, kept-none, total-was}
-use Rattle.demands.proofs.Demand2.{Holds, begins, one-of, fresh-run}
+use Rattle.demands.proofs.TotalLaws.{OfRulebook, Kept, total-was}
+use Rattle.demands.proofs.Demand2.{begins, begun-kept, fresh-run}
 use Rattle.demands.proofs.JoinTables.{joined-log}
 use Rattle.demands.proofs.JoinCounts.{times-added, selfs-added, times-other, times-none, offence-a, offence-b, offence-none}
 use Rattle.demands.proofs.JoinRun.{AcceptedBy, both-idle, runs-again, take-same, total-same}
@@ -48,23 +48,28 @@ module _ (a b rulebook : ℕ) (w w′ : Desk) (cs : List Call) (gs gs′ : List 
   abbrev start : History
   start = record { rulebook = rulebook; days = [] }
 
-  begun-kept : (v : Desk) → v .book ≡ bookOver rulebook [] → Holds start (v .book)
-  begun-kept v e = subst (Kept rulebook []) (sym e) (kept-none rulebook (one-of rulebook (r .known)))
-
   abbrev both : AcceptedBy (begun w′) (map (joinCall a b) cs)
-      × (history (begun w′) start (map (joinCall a b) cs) .rulebook ≡ history (begun w) start cs .rulebook)
-      × DaysJoined a b (history (begun w) start cs .rulebook) (daysOf rulebook w cs) (daysOf rulebook w′ (map (joinCall a b) cs))
+      × (since rulebook w′ (map (joinCall a b) cs) .rulebook ≡ since rulebook w cs .rulebook)
+      × DaysJoined a b (since rulebook w cs .rulebook) (daysOf rulebook w cs) (daysOf rulebook w′ (map (joinCall a b) cs))
   both =
       runs-again a b (r .first-a) (r .first-b) (r .last-b) (r .differ) (begun w) (begun w′) start start cs
-      (record { course = both-idle; kept = begun-kept w (r .fresh); kept′ = begun-kept w′ (r .fresh′); same = refl; days = none; room = r .counts′; out = r .out′ })
-      (accepted-by (begins w (r .closed)) (r .ran) (r .accepted))
+      (record {
+        course = both-idle;
+        kept = begun-kept rulebook w cs gs (r .run);
+        kept′ = begun-kept rulebook w′ (map (joinCall a b) cs) gs′ (r .joined);
+        same = refl;
+        days = none;
+        room = r .counts;
+        out = r .out;
+      })
+      (accepted-by (begins w (r .run .closed)) (r .run .ran) (r .accepted))
 
 pub checks-same : ChecksSame
 checks-same a b log some-a some-b most-b apart e =
     record { tables = joined-log a b log some-a some-b most-b e .sound; records = λ rs row. take-same a b some-a some-b most-b apart log rs row e }
 
 pub accepted-again : AcceptedAgain
-accepted-again a b rulebook w w′ cs gs gs′ r = by-accepted (begins w′ (r .closed′)) (r .ran′) (both a b rulebook w w′ cs gs gs′ r .0)
+accepted-again a b rulebook w w′ cs gs gs′ r = by-accepted (begins w′ (r .joined .closed)) (r .joined .ran) (both a b rulebook w w′ cs gs gs′ r .0)
 
 pub same-days : SameDays
 same-days a b rulebook w w′ cs gs gs′ r = both a b rulebook w w′ cs gs gs′ r .2
@@ -84,7 +89,7 @@ offences-stay a b t t′ rs some-a apart j kind family (inl e) = offence-a a b t
 offences-stay a b t t′ rs some-a apart j kind family (inr e) = offence-b a b t t′ j some-a apart rs kind family e
 
 pub sanctions-found : SanctionsFound
-sanctions-found rulebook w cs gs e one b r = fresh-run w rulebook cs gs e one b r .sanctions
+sanctions-found rulebook w cs gs r = fresh-run rulebook w cs gs r .sanctions
 
 -- ---- a ladder's days
 record InRange (group kind family : ℕ) : Type 0 where
@@ -118,10 +123,10 @@ module _ (a b rulebook y l l′ : ℕ) where
       → {days days′ : List Ended} → DaysJoined a b rulebook days days′ → offenceDays y l days ≤ offenceDays y l′ days′
   unfolding offenceDays howMany
   days-more h none = zero-le
-  days-more h (more {d} {d′} date records tables others gone rest) =
-      let q : eqb (year (d′ .date)) y ≡ eqb (year (d .date)) y = ap (λ (n : ℕ). eqb (year n) y) date in
+  days-more h (more {d} {d′} j rest) =
+      let q : eqb (year (d′ .date)) y ≡ eqb (year (d .date)) y = ap (λ (n : ℕ). eqb (year n) y) (j .date) in
       let m : pick (eqb (year (d .date)) y && offenceOn l d) 1 0 ≤ pick (eqb (year (d′ .date)) y && offenceOn l′ d′) 1 0 =
-      rw q (pick-more (eqb (year (d .date)) y) (offenceOn l d) (offenceOn l′ d′) (h d d′ records tables)) in
+      rw q (pick-more (eqb (year (d .date)) y) (offenceOn l d) (offenceOn l′ d′) (h d d′ (j .records) (j .tables))) in
       omega (arith, days-more h rest)
 
 -- a ladder with no offence has no offence day
@@ -129,15 +134,15 @@ days-none : (a b rulebook y l : ℕ) → ((d d′ : Ended) → Joined a b (d .ta
     → DaysJoined a b rulebook days days′ → offenceDays y l days′ ≡ 0
 unfolding offenceDays howMany
 days-none a b rulebook y l h none = refl
-days-none a b rulebook y l h (more {d} {d′} date records tables others gone rest) =
+days-none a b rulebook y l h (more {d} {d′} j rest) =
     let q : _≡_ {A = ℕ} (pick (eqb (year (d′ .date)) y && offenceOn l d′) 1 0) 0 =
-    sym (pick-no _ _ _ _ (and-no-right (eqb (year (d′ .date)) y) (offenceOn l d′) (h d d′ tables)) refl) in
+    sym (pick-no _ _ _ _ (and-no-right (eqb (year (d′ .date)) y) (offenceOn l d′) (h d d′ (j .tables))) refl) in
     omega (arith, days-none a b rulebook y l h rest)
 
 -- ---- one year
 in-year : {a b rulebook y : ℕ} {days days′ : List Ended} → DaysJoined a b rulebook days days′ → InYear y days → InYear y days′
 in-year none none = none
-in-year (more date records tables others gone rest) (more e i) = more (ap year date ∙ e) (in-year rest i)
+in-year (more j rest) (more e i) = more (ap year (j .date) ∙ e) (in-year rest i)
 
 last-year : (y l : ℕ) (days : List Ended) → InYear y days → offenceDays (year (lastOf days)) l days ≡ offenceDays y l days
 unfolding lastOf offenceDays howMany
@@ -168,15 +173,15 @@ module _ (rulebook y : ℕ) (days : List Ended) (book : List ℕ) (k : Kept rule
 
 pub others-kept : OthersKept
 others-kept a b rulebook w w′ cs gs gs′ r l h not-a not-b =
-    let k = fresh-run w rulebook cs gs (r .closed) (r .known) (r .fresh) (r .ran) in
-    let k′ = fresh-run w′ rulebook (map (joinCall a b) cs) gs′ (r .closed′) (r .known) (r .fresh′) (r .ran′) in
+    let k = fresh-run rulebook w cs gs (r .run) in
+    let k′ = fresh-run rulebook w′ (map (joinCall a b) cs) gs′ (r .joined) in
     let q = both a b rulebook w w′ cs gs gs′ r in
     total-same a b _ _ _ _ _ k (subst (λ (x : ℕ). Kept x (daysOf rulebook w′ (map (joinCall a b) cs)) (left w′ gs′ .book)) (q .1) k′) (q .2) l h (r .first-a) (r .differ) not-a not-b
 
 pub nothing-lost : NothingLost
 nothing-lost a b rulebook y w w′ cs gs gs′ r i kind family low high most =
-    let k = fresh-run w rulebook cs gs (r .closed) (r .known) (r .fresh) (r .ran) in
-    let k′ = fresh-run w′ rulebook (map (joinCall a b) cs) gs′ (r .closed′) (r .known) (r .fresh′) (r .ran′) in
+    let k = fresh-run rulebook w cs gs (r .run) in
+    let k′ = fresh-run rulebook w′ (map (joinCall a b) cs) gs′ (r .joined) in
     let q = both a b rulebook w w′ cs gs gs′ r in
     let i′ = in-year (q .2) i in
     let in-a : InRange a kind family = record { first-group = r .first-a; last-group = r .last-a; first-kind = low; last-kind = high; last-family = most } in

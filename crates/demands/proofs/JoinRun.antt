@@ -78,7 +78,7 @@ AcceptedBy p (c ∷ cs) = (refusal p (p .course) c ≡ 0) × AcceptedBy (rule p 
 pub last-same : {a b rulebook : ℕ} {days days′ : List Ended} → DaysJoined a b rulebook days days′ → lastOf days′ ≡ lastOf days
 unfolding lastOf
 last-same none = refl
-last-same (more date records tables others gone rest) = date
+last-same (more j rest) = j .date
 
 -- other groups' offence days are the same
 module _ (a b rulebook y l : ℕ) (some-a : 1 ≤ a) (apart : a ≡ b → ⊥) (not-a : groupAt l ≡ a → ⊥) (not-b : groupAt l ≡ b → ⊥) where
@@ -91,9 +91,9 @@ module _ (a b rulebook y l : ℕ) (some-a : 1 ≤ a) (apart : a ≡ b → ⊥) (
   pub days-other : {days days′ : List Ended} → DaysJoined a b rulebook days days′ → offenceDays y l days′ ≡ offenceDays y l days
   unfolding offenceDays howMany
   days-other none = refl
-  days-other (more {d} {d′} date records tables others gone rest) =
+  days-other (more {d} {d′} j rest) =
       ap₂ (λ (x n : ℕ). x + n)
-      (ap₂ (λ (m : ℕ) (o : Bool). pick (eqb (year m) y && o) 1 0) date (day-other d d′ records tables)) (days-other rest)
+      (ap₂ (λ (m : ℕ) (o : Bool). pick (eqb (year m) y && o) 1 0) (j .date) (day-other d d′ (j .records) (j .tables))) (days-other rest)
 
 module _ (a b rulebook : ℕ) (days days′ : List Ended) (book book′ : List ℕ) (k : Kept rulebook days book) (k′ : Kept rulebook days′ book′)
     (j : DaysJoined a b rulebook days days′) where
@@ -236,12 +236,16 @@ module _ (a b : ℕ) (some-a : 1 ≤ a) (some-b : 1 ≤ b) (most-b : b ≤ 128) 
               kept = kept-day (h .rulebook) (h .days) log book rs (s .kept) (ready log book g (f .2));
               kept′ = kept-day (h′ .rulebook) (h′ .days) (joinLog a b log) book′ rs (s .kept′) (ready (joinLog a b log) book′ (j .sound) allowed);
               same = s .same;
-              days = more (ap (λ (x : Header). x .date) (j .head)) refl (j .tables)
-                  (λ l less not-a not-b. ap₂ (λ (d : ℕ) (x : List ℕ). foundAt (tablesOf (joinLog a b log)) d x (timesOn (tablesOf (joinLog a b log)) rs) l) (ap (λ (x : Header). x .date) (j .head)) (sym (k′ .is))
-                  ∙ found-other a b (tablesOf log) (tablesOf (joinLog a b log)) (j .tables) some-a apart rs l not-a not-b (headerOf log .date) book book′
-                  (dates-same a b (h .rulebook) (h .days) (h′ .days) book book′ (s .kept) k′ (s .days)) (total-same a b (h .rulebook) (h .days) (h′ .days) book book′ (s .kept) k′ (s .days) l less some-a apart not-a not-b)
-                  ∙ ap (λ (x : List ℕ). foundAt (tablesOf log) (headerOf log .date) x (timesOn (tablesOf log) rs) l) (s .kept .is))
-                  (λ l less is-a. found-none a b (tablesOf log) (tablesOf (joinLog a b log)) (j .tables) some-a apart rs l is-a _ _) (s .days);
+              days = more (record {
+                date = ap (λ (x : Header). x .date) (j .head);
+                records = refl;
+                tables = j .tables;
+                others = λ l less not-a not-b. ap₂ (λ (d : ℕ) (x : List ℕ). foundAt (tablesOf (joinLog a b log)) d x (timesOn (tablesOf (joinLog a b log)) rs) l) (ap (λ (x : Header). x .date) (j .head)) (sym (k′ .is))
+                    ∙ found-other a b (tablesOf log) (tablesOf (joinLog a b log)) (j .tables) some-a apart rs l not-a not-b (headerOf log .date) book book′
+                    (dates-same a b (h .rulebook) (h .days) (h′ .days) book book′ (s .kept) k′ (s .days)) (total-same a b (h .rulebook) (h .days) (h′ .days) book book′ (s .kept) k′ (s .days) l less some-a apart not-a not-b)
+                    ∙ ap (λ (x : List ℕ). foundAt (tablesOf log) (headerOf log .date) x (timesOn (tablesOf log) rs) l) (s .kept .is);
+                gone = λ l less is-a. found-none a b (tablesOf log) (tablesOf (joinLog a b log)) (j .tables) some-a apart rs l is-a _ _;
+              }) (s .days);
               room = s .room;
               out = rw (out-length (tablesOf (joinLog a b log)) rs (headerOf (joinLog a b log) .date) book′ out′ (s .out)) (s .out);
             });

@@ -8,7 +8,8 @@ use Rattle.book.specs.Layout.{bookOf}
 use Rattle.daylog.specs.declared.record.Record.{Record}
 use Rattle.daylog.specs.Tables.{Tables}
 use Rattle.desk.specs.Offences.{groupAt, kindAt, familyAt}
-use Rattle.demands.specs.Counts.{howMany, offence}
+use Rattle.desk.specs.Findings.{foundAt}
+use Rattle.demands.specs.Counts.{howMany, timesOn, offence}
 
 -- a day that was ended: its date, its tables, the records that it took
 pub record Ended : Type 0 where
@@ -32,3 +33,7 @@ lastOf (d ∷ days) = d .date
 -- the book as bytes, from the days alone: each total is the number of offence days in the last day's year
 unfoldable pub bookOver : ℕ → List Ended → List ℕ
 bookOver rulebook days = bookOf rulebook (lastOf days) (λ ladder. offenceDays (year (lastOf days)) ladder days)
+
+-- what a day adds to its findings for a ladder, as bytes, on the book of the days before it
+abbrev pub foundOn : ℕ → Ended → List Ended → ℕ → List ℕ
+foundOn rulebook d before ladder = foundAt (d .tables) (d .date) (bookOver rulebook before) (timesOn (d .tables) (d .records)) ladder

@@ -102,16 +102,26 @@ left w (g ∷ gs) = left (g .after) gs
 abbrev pub FreshIsOfNone : Type 0
 FreshIsOfNone = (book : List ℕ) (rulebook : ℕ) → freshFault (length book) rulebook ≡ 0 → freshBook book rulebook ≡ bookOver rulebook []
 
--- from a fresh book on, the book as bytes is that of the days that were ended: nothing else goes into it
+-- a run from a fresh book, with no day open
+pub record FreshRun (rulebook : ℕ) (w : Desk) (cs : List Call) (gs : List Given) : Type 0 where
+  pub known : (rulebook ≡ 1) ⊎ (rulebook ≡ 2)
+  pub closed : w .state ≡ Closed
+  pub fresh : w .book ≡ bookOver rulebook []
+  pub ran : Ran w cs gs
+
+-- the days that it ended
+abbrev pub since : ℕ → Desk → List Call → History
+since rulebook w cs = history (begun w) (record { rulebook = rulebook; days = [] }) cs
+
+-- the book as bytes is that of the days that were ended: nothing else goes into it
 abbrev pub BookOfDays : Type 0
-BookOfDays = (w : Desk) (rulebook : ℕ) (cs : List Call) (gs : List Given) → w .state ≡ Closed → (rulebook ≡ 1) ⊎ (rulebook ≡ 2) → w .book ≡ bookOver rulebook [] → Ran w cs gs
-    → left w gs .book ≡ bookOver (history (begun w) (record { rulebook = rulebook; days = [] }) cs .rulebook) (history (begun w) (record { rulebook = rulebook; days = [] }) cs .days)
+BookOfDays = (rulebook : ℕ) (w : Desk) (cs : List Call) (gs : List Given) → FreshRun rulebook w cs gs
+    → left w gs .book ≡ bookOver (since rulebook w cs .rulebook) (since rulebook w cs .days)
 
 -- and each total is the number of that year's days, among those, that were an offence
 abbrev pub TotalsCounted : Type 0
-TotalsCounted = (w : Desk) (rulebook : ℕ) (cs : List Call) (gs : List Given) → w .state ≡ Closed → (rulebook ≡ 1) ⊎ (rulebook ≡ 2) → w .book ≡ bookOver rulebook [] → Ran w cs gs
-    → (ladder : ℕ) → ladder < ladders → totalAt (left w gs .book) ladder
-    ≡ offenceDays (year (lastDate (left w gs .book))) ladder (history (begun w) (record { rulebook = rulebook; days = [] }) cs .days)
+TotalsCounted = (rulebook : ℕ) (w : Desk) (cs : List Call) (gs : List Given) → FreshRun rulebook w cs gs → (ladder : ℕ) → ladder < ladders
+    → totalAt (left w gs .book) ladder ≡ offenceDays (year (lastDate (left w gs .book))) ladder (since rulebook w cs .days)
 
 -- ---- any list of day logs as bytes, as the clerk reads them: the numbers, the findings and the book's file are the rules'
 abbrev pub LogsRuled : Type 0

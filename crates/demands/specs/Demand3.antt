@@ -12,15 +12,13 @@ use Rattle.book.specs.Layout.{ladders, ladderOf, totalAt}
 use Rattle.daylog.specs.declared.record.Record.{Record}
 use Rattle.daylog.specs.Header.{logFault}
 use Rattle.daylog.specs.Tables.{Tables}
-use Rattle.desk.specs.declared.state.State.the-variants.{Closed}
 use Rattle.desk.specs.Cells.{cells}
 use Rattle.desk.specs.Offences.{groupAt}
-use Rattle.desk.specs.Findings.{foundAt}
-use Rattle.demands.specs.Counts.{timesOf, timesOn, offence}
-use Rattle.demands.specs.Days.{Ended, bookOver}
-use Rattle.demands.specs.Calls.{Call, makeBook, openDay, takeRecord, endDay, abandonDay, askBook, numberIn, Desk, Given, Ran}
+use Rattle.demands.specs.Counts.{timesOf, offence}
+use Rattle.demands.specs.Days.{Ended, foundOn}
+use Rattle.demands.specs.Calls.{Call, makeBook, openDay, takeRecord, endDay, abandonDay, askBook, numberIn, Desk, Given}
 use Rattle.demands.specs.Paper.{takeNumber}
-use Rattle.demands.specs.Demand2.{begun, history, left}
+use Rattle.demands.specs.Demand2.{left, FreshRun, since}
 use Rattle.demands.specs.Join.{joinLog, Joined, between}
 use Rattle.demands.specs.Restrictions.{restrictions, Sanctioned}
 
@@ -45,20 +43,15 @@ pub record Run (a b rulebook : ℕ) (w w′ : Desk) (cs : List Call) (gs gs′ :
   pub first-b : 1 ≤ b
   pub last-b : b ≤ 128
   pub differ : a ≡ b → ⊥
-  pub known : (rulebook ≡ 1) ⊎ (rulebook ≡ 2)
-  pub closed : w .state ≡ Closed
-  pub closed′ : w′ .state ≡ Closed
-  pub fresh : w .book ≡ bookOver rulebook []
-  pub fresh′ : w′ .book ≡ bookOver rulebook []
-  pub counts′ : cells ≤ length (w′ .counts)
-  pub out′ : 49152 ≤ length (w′ .out)
-  pub ran : Ran w cs gs
+  pub run : FreshRun rulebook w cs gs
   pub accepted : Accepted gs
-  pub ran′ : Ran w′ (map (joinCall a b) cs) gs′
+  pub joined : FreshRun rulebook w′ (map (joinCall a b) cs) gs′
+  pub counts : cells ≤ length (w′ .counts)
+  pub out : 49152 ≤ length (w′ .out)
 
 -- the days that the run ended, and those of the joined run
 abbrev pub daysOf : ℕ → Desk → List Call → List Ended
-daysOf rulebook w cs = history (begun w) (record { rulebook = rulebook; days = [] }) cs .days
+daysOf rulebook w cs = since rulebook w cs .days
 
 -- 1. "table and record checks give the same numbers": tables without fault have none again, and a record is refused by them
 -- with the number that it was refused with, or taken
@@ -74,19 +67,22 @@ abbrev pub AcceptedAgain : Type 0
 AcceptedAgain = (a b rulebook : ℕ) (w w′ : Desk) (cs : List Call) (gs gs′ : List Given) → Run a b rulebook w w′ cs gs gs′ → Accepted gs′
 
 -- and the days are the same but for the groups: what they found for other groups is as it was, byte for byte, and group a has
--- no finding any more. `book`, `book′` are the days' books, from which a finding's total comes.
+-- no finding any more
+pub record DayJoined (a b rulebook : ℕ) (d d′ : Ended) (before before′ : List Ended) : Type 0 where
+  pub date : d′ .date ≡ d .date
+  pub records : d′ .records ≡ d .records
+  pub tables : Joined a b (d .tables) (d′ .tables)
+  pub others : (l : ℕ) → l < ladders → (groupAt l ≡ a → ⊥) → (groupAt l ≡ b → ⊥) → foundOn rulebook d′ before′ l ≡ foundOn rulebook d before l
+  pub gone : (l : ℕ) → l < ladders → groupAt l ≡ a → foundOn rulebook d′ before′ l ≡ []
+
 pub data DaysJoined (a b rulebook : ℕ) : List Ended → List Ended → Type 0 where
   none : DaysJoined a b rulebook [] []
-  more : {d d′ : Ended} {days days′ : List Ended} → d′ .date ≡ d .date → d′ .records ≡ d .records → Joined a b (d .tables) (d′ .tables)
-      → ((l : ℕ) → l < ladders → (groupAt l ≡ a → ⊥) → (groupAt l ≡ b → ⊥)
-      → foundAt (d′ .tables) (d′ .date) (bookOver rulebook days′) (timesOn (d′ .tables) (d′ .records)) l
-      ≡ foundAt (d .tables) (d .date) (bookOver rulebook days) (timesOn (d .tables) (d .records)) l)
-      → ((l : ℕ) → l < ladders → groupAt l ≡ a → foundAt (d′ .tables) (d′ .date) (bookOver rulebook days′) (timesOn (d′ .tables) (d′ .records)) l ≡ [])
-      → DaysJoined a b rulebook days days′ → DaysJoined a b rulebook (d ∷ days) (d′ ∷ days′)
+  more : {d d′ : Ended} {days days′ : List Ended} → DayJoined a b rulebook d d′ days days′ → DaysJoined a b rulebook days days′
+      → DaysJoined a b rulebook (d ∷ days) (d′ ∷ days′)
 
 abbrev pub SameDays : Type 0
 SameDays = (a b rulebook : ℕ) (w w′ : Desk) (cs : List Call) (gs gs′ : List Given) → Run a b rulebook w w′ cs gs gs′
-    → DaysJoined a b (history (begun w) (record { rulebook = rulebook; days = [] }) cs .rulebook) (daysOf rulebook w cs) (daysOf rulebook w′ (map (joinCall a b) cs))
+    → DaysJoined a b (since rulebook w cs .rulebook) (daysOf rulebook w cs) (daysOf rulebook w′ (map (joinCall a b) cs))
 
 -- 2. counts add, on every contract
 pub record Added (a b : ℕ) (t t′ : Tables) (rs : List Record) : Type 0 where
@@ -123,9 +119,8 @@ NothingLost = (a b rulebook y : ℕ) (w w′ : Desk) (cs : List Call) (gs gs′ 
 
 -- the sanctions counted there are those that the findings have, byte for byte; so of any run from a fresh book
 abbrev pub SanctionsFound : Type 0
-SanctionsFound = (rulebook : ℕ) (w : Desk) (cs : List Call) (gs : List Given) → w .state ≡ Closed → (rulebook ≡ 1) ⊎ (rulebook ≡ 2)
-    → w .book ≡ bookOver rulebook [] → Ran w cs gs
-    → Sanctioned (history (begun w) (record { rulebook = rulebook; days = [] }) cs .rulebook) (daysOf rulebook w cs)
+SanctionsFound = (rulebook : ℕ) (w : Desk) (cs : List Call) (gs : List Given) → FreshRun rulebook w cs gs
+    → Sanctioned (since rulebook w cs .rulebook) (daysOf rulebook w cs)
 
 -- 5. "all other groups' findings and totals are exactly as they were"
 abbrev pub OthersKept : Type 0

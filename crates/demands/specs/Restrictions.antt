@@ -11,9 +11,8 @@ use Rattle.calendar.specs.Dates.{year}
 use Rattle.rules.specs.Ladders.{rung, sanction}
 use Rattle.book.specs.Layout.{ladders}
 use Rattle.desk.specs.Offences.{groupAt}
-use Rattle.desk.specs.Findings.{memberOn, foundAt}
-use Rattle.demands.specs.Counts.{timesOn}
-use Rattle.demands.specs.Days.{Ended, offenceOn, offenceDays, bookOver}
+use Rattle.desk.specs.Findings.{memberOn}
+use Rattle.demands.specs.Days.{Ended, offenceOn, offenceDays, foundOn}
 
 -- the sanction of a day's finding on a ladder, after the days before it; 0 where there is none
 unfoldable pub sanctionOn : ℕ → Ended → List Ended → ℕ
@@ -38,6 +37,5 @@ restrictions = sanctions noOpening
 pub data Sanctioned (rulebook : ℕ) : List Ended → Type 0 where
   none : Sanctioned rulebook []
   more : {d : Ended} {days : List Ended}
-      → ((l : ℕ) → l < ladders
-      → getD (foundAt (d .tables) (d .date) (bookOver rulebook days) (timesOn (d .tables) (d .records)) l) 3 0 ≡ sanctionOn l d days)
+      → ((l : ℕ) → l < ladders → getD (foundOn rulebook d days l) 3 0 ≡ sanctionOn l d days)
       → Sanctioned rulebook days → Sanctioned rulebook (d ∷ days)

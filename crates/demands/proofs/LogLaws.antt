@@ -23,7 +23,7 @@ use Rattle.desk.specs.End.{rowFault}
 use Rattle.demands.specs.Counts.{timesOn}
 use Rattle.demands.specs.Calls.{Call, openDay, takeRecord, endDay, numberIn, Desk, Given, Gives}
 use Rattle.demands.specs.Paper.{idle, during, Paper, dayIn, takeNumber, endRefusal, openRuled, takeRuled, endRuled, rule}
-use Rattle.demands.specs.Logs.{front, rowsOf, isEnd, Reads, stops, cut, takes, take-refused, end-refused, ends, follows, clerkDesk, Judges, open-refused, opened, fileAfter, recordsIn, isLast, rowsNumber, logNumber, dayFindings, ruledFile, Judged, printedOf, JudgesAll, none as no-log, next as one-log, ruledLogs}
+use Rattle.demands.specs.Logs.{front, rowsOf, isEnd, Reads, stops, cut, takes, take-refused, end-refused, ends, follows, clerkDesk, Judges, open-refused, opened, fileAfter, recordsIn, followFault, rowsNumber, logNumber, dayFindings, ruledFile, Judged, printedOf, JudgesAll, none as no-log, next as one-log, ruledLogs}
 use Rattle.demands.specs.Demand2.{LogsRuled}
 use Rattle.demands.proofs.CallLaws.{Stands, rest, step, paper, stands-book, stands-out, handed-parts}
 use Rattle.demands.proofs.NumberLaws.{refusal, number-is}
@@ -62,7 +62,7 @@ module _ (log : List ℕ) (rs : List Record) where
     unfolding rowsNumber
     rows-cut e = pick-yes _ _ _ _ (flip-yes _ e) refl
 
-    rows-end : eqb (length row) 20 ≡ true → isEnd row ≡ true → orElse (rowFault (dayIn log rs) row) (isLast more) ≡ rowsNumber log rs (row ∷ more)
+    rows-end : eqb (length row) 20 ≡ true → isEnd row ≡ true → orElse (rowFault (dayIn log rs) row) (followFault more) ≡ rowsNumber log rs (row ∷ more)
     unfolding rowsNumber
     rows-end e t = pick-no _ _ _ _ (flip-no _ e) (pick-yes _ _ _ _ t refl)
 

@@ -79,18 +79,20 @@ unfoldable pub recordsIn : List Record → List (List ℕ) → List Record
 recordsIn rs [] = rs
 recordsIn rs (row ∷ more) = pick (isEnd row) rs (recordsIn (recordOf row ∷ rs) more)
 
-abbrev pub isLast : List (List ℕ) → ℕ
-isLast [] = 0
-isLast (next ∷ more) = 1
+-- the refusal for what follows an end record that is accepted, 0 where nothing does
+abbrev pub followFault : List (List ℕ) → ℕ
+followFault [] = 0
+followFault (next ∷ more) = 1
 
 -- the number of the refusal that the rows bring, 0 for none
 unfoldable pub rowsNumber : List ℕ → List Record → List (List ℕ) → ℕ
 rowsNumber tables rs [] = 1
 rowsNumber tables rs (row ∷ more) =
     pick (not (eqb (length row) 20)) 1
-    (pick (isEnd row) (orElse (rowFault (dayIn tables rs) row) (isLast more))
+    (pick (isEnd row) (orElse (rowFault (dayIn tables rs) row) (followFault more))
     (orElse (takeNumber tables rs row) (rowsNumber tables (recordOf row ∷ rs) more)))
 
+-- opening comes before the rows
 unfoldable pub logNumber : (book log : List ℕ) → ℕ
 logNumber book log = orElse (handedFault (front log) book cells) (rowsNumber (front log) [] (rowsOf log))
 
@@ -103,7 +105,7 @@ abbrev pub dayBook : (book log : List ℕ) → List ℕ
 dayBook book log =
     bookAfter (tablesOf (front log)) (headerOf (front log) .date) book (timesOn (tablesOf (front log)) (recordsIn [] (rowsOf log)))
 
--- the file after a log, and after a list of logs
+-- the file after a log: the day's book where the log is accepted, and else as it was
 unfoldable pub ruledFile : List ℕ → List ℕ → List ℕ
 ruledFile book log = pick (eqb (logNumber book log) 0) (dayBook book log) book
 

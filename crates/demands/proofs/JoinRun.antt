@@ -2,16 +2,14 @@
 use mathlib.Core.Path.{_≡_, refl, sym, ap, ap₂, _∙_, subst}
 use mathlib.Core.Bool.{Bool, true, not, _&&_}
 use mathlib.Core.List.{List, [], _∷_, map}
-use Prim.Native.Nat.{ℕ, _+_, _*_, _≤_, _<_}
-use native.Mathlib.Nat.{le-trans}
+use Prim.Native.Nat.{ℕ, _+_, _≤_, _<_}
 use native.Mathlib.Omega.{arith}
 use borrow.Author.Tests.{eq-eqb, le-ltb, not-false}
 use lib.Dec.{leb, eqb, lit<}
 use lib.ListN.{length}
 use Rattle.wire.specs.Choice.{pick, orElse}
 use Rattle.wire.specs.Buffers.{put}
-use Rattle.wire.proofs.ChoiceLaws.{pick-yes, pick-no, pick-zero, or-else, or-none, flip-no}
-use Rattle.wire.proofs.PlaceLaws.{count-le}
+use Rattle.wire.proofs.ChoiceLaws.{pick-yes, pick-no, pick-zero, or-else, or-none}
 use Rattle.wire.proofs.BufferLaws.{length-put}
 use Rattle.calendar.specs.Dates.{year}
 use Rattle.book.specs.Fresh.{freshFault, freshBook}
@@ -25,8 +23,8 @@ use Rattle.daylog.specs.Header.{headerOf, logFault}
 use Rattle.daylog.specs.Records.{recordOf}
 use Rattle.daylog.specs.Tables.{Tables, tablesOf}
 use Rattle.desk.specs.Open.{bookFault, roomFault, handedFault}
-use Rattle.desk.specs.Offences.{groupAt, kindAt, familyAt, offendsOn}
-use Rattle.desk.specs.Findings.{findings, foundAt, bookAfter, foundCount}
+use Rattle.desk.specs.Offences.{groupAt, kindAt, familyAt}
+use Rattle.desk.specs.Findings.{findings, foundAt, bookAfter}
 use Rattle.desk.specs.End.{rowFault}
 use Rattle.demands.specs.Counts.{howMany, timesOn, offence}
 use Rattle.demands.specs.Days.{Ended, lastOf, offenceOn, offenceDays}
@@ -38,6 +36,7 @@ use Rattle.demands.specs.Demand3.{joinCall, DaysJoined, none, more}
 use Rattle.demands.proofs.CallLaws.{paper, handed-parts}
 use Rattle.demands.proofs.ListedLaws.{findings-list}
 use Rattle.demands.proofs.NumberLaws.{refusal}
+use Rattle.demands.proofs.LogLaws.{found-fits, end-plain}
 use Rattle.demands.proofs.TotalLaws.{ready, Kept, kept-day, last-is, total-was, book-rulebook, dayOf}
 use Rattle.demands.proofs.Demand2.{Holds, holds-fresh}
 use Rattle.demands.proofs.JoinTables.{joined-log}
@@ -119,7 +118,7 @@ unfolding handedFault roomFault
 handed-whole log book room e f h =
     or-else (logFault log) _ e ∙ or-else (bookFault (headerOf log) book) _ f ∙ sym (pick-no _ _ _ _ (le-ltb room 12288 h) refl)
 
--- ending's refusals likewise: findings never need more than 49,152 bytes
+-- ending's refusals taken apart
 end-parts : (log : List ℕ) (rs : List Record) (row book : List ℕ) (room : ℕ) → endRefusal log rs row book room ≡ 0
     → (eqb (length row) 20 ≡ true) × (rowFault (dayIn log rs) row ≡ 0) × (bookFault (headerOf log) book ≡ 0)
 unfolding endRefusal
@@ -127,17 +126,6 @@ end-parts log rs row book room e =
     let q = pick-zero _ 1 _ (lit< tt) e in
     let r = or-none (rowFault (dayIn log rs) row) _ (q .1) in
     (not-false _ (q .0), r .0, or-none (bookFault (headerOf log) book) _ (r .1) .0)
-
-few-found : (t : Tables) (rs : List Record) → 8 * foundCount t (timesOn t rs) ≤ 49152
-unfolding foundCount
-few-found t rs = omega (arith, count-le (offendsOn t (timesOn t rs)) 6144)
-
-end-whole : (log : List ℕ) (rs : List Record) (row book : List ℕ) (room : ℕ) → eqb (length row) 20 ≡ true → rowFault (dayIn log rs) row ≡ 0
-    → bookFault (headerOf log) book ≡ 0 → 49152 ≤ room → endRefusal log rs row book room ≡ 0
-unfolding endRefusal
-end-whole log rs row book room e f g h =
-    sym (pick-no _ _ _ _ (flip-no _ e) refl) ∙ or-else (rowFault (dayIn log rs) row) _ f ∙ or-else (bookFault (headerOf log) book) _ g
-    ∙ sym (pick-no _ _ _ _ (le-ltb room _ (le-trans (few-found (tablesOf log) rs) h)) refl)
 
 row-any : (log log′ : List ℕ) (rs : List Record) (row : List ℕ) → rowFault (dayIn log′ rs) row ≡ rowFault (dayIn log rs) row
 unfolding rowFault
@@ -147,7 +135,7 @@ out-length : (t : Tables) (rs : List Record) (date : ℕ) (book out : List ℕ) 
     → length (put out 0 (findings t date book (timesOn t rs))) ≡ length out
 out-length t rs date book out h =
     let long = findings-list t rs date book .long in
-    length-put out 0 (findings t date book (timesOn t rs)) (omega (arith, few-found t rs))
+    length-put out 0 (findings t date book (timesOn t rs)) (omega (arith, found-fits t (timesOn t rs) (length out) h))
 
 -- ---- side by side
 pub data Twin (a b : ℕ) : Course → Course → Type 0 where
@@ -228,7 +216,7 @@ module _ (a b : ℕ) (some-a : 1 ≤ a) (some-b : 1 ≤ b) (most-b : b ≤ 128) 
       let k′ : Kept (h .rulebook) (h′ .days) book′ = rw (← s .same) (s .kept′) in
       let allowed : bookFault (headerOf (joinLog a b log)) book′ ≡ 0 =
       ap (λ (x : Header). bookFault x book′) (j .head) ∙ book-allows a b (h .rulebook) (h .days) (h′ .days) book book′ (s .kept) k′ (s .days) (headerOf log) (f .2) in
-      let z : endRefusal (joinLog a b log) rs row book′ (length out′) ≡ 0 = end-whole (joinLog a b log) rs row book′ (length out′) (f .0) (row-any log (joinLog a b log) rs row ∙ f .1) allowed (s .out) in record {
+      let z : endRefusal (joinLog a b log) rs row book′ (length out′) ≡ 0 = end-plain (joinLog a b log) rs row book′ (length out′) (f .0) allowed (s .out) ∙ row-any log (joinLog a b log) rs row ∙ f .1 in record {
         number = z;
         after = move (after-end p log rs row e) (after-end p′ (joinLog a b log) rs row z) (recorded-end p log rs row h e) (recorded-end p′ (joinLog a b log) rs row h′ z)
             (record {

@@ -37,12 +37,12 @@ or-zero a = go (eqb a 0) refl
     go false e = or-first a 0 (eqb-false a 0 e)
 
 -- "At most 6,144, which is 49,152 bytes": a buffer of that length is never too short
-found-fits : (t : Tables) (counted : ℕ → ℕ → ℕ) (room : ℕ) → 49152 ≤ room → 8 * foundCount t counted ≤ room
+pub found-fits : (t : Tables) (counted : ℕ → ℕ → ℕ) (room : ℕ) → 49152 ≤ room → 8 * foundCount t counted ≤ room
 unfolding foundCount
 found-fits t counted room h = omega (arith, count-le (offendsOn t counted) 6144)
 
 -- on a book that the opening accepted, and with that room, only the record itself can be refused
-end-plain : (log : List ℕ) (rs : List Record) (row book : List ℕ) (room : ℕ) → eqb (length row) 20 ≡ true
+pub end-plain : (log : List ℕ) (rs : List Record) (row book : List ℕ) (room : ℕ) → eqb (length row) 20 ≡ true
     → bookFault (headerOf log) book ≡ 0 → 49152 ≤ room → endRefusal log rs row book room ≡ rowFault (dayIn log rs) row
 unfolding endRefusal
 end-plain log rs row book room e b h =

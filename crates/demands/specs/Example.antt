@@ -6,11 +6,11 @@ use Prim.Native.Nat.{ℕ, _+_, _≤_}
 use lib.Dec.{eqb}
 use lib.ListN.{replicate}
 use Rattle.wire.specs.Choice.{pick}
-use Rattle.rules.specs.Measure.{lots}
 use Rattle.book.specs.Layout.{ladderOf}
 use Rattle.daylog.specs.declared.record.Record.{Record}
 use Rattle.daylog.specs.Tables.{Tables}
 use Rattle.demands.specs.Days.{Ended}
+use Rattle.demands.specs.Samples.{futures, plainTrade}
 use Rattle.demands.specs.Join.{Joined}
 use Rattle.demands.specs.Restrictions.{sanctions, restrictions}
 use Rattle.demands.specs.Demand3.{InYear}
@@ -21,25 +21,14 @@ unfoldable pub tablesWith : (group : ℕ) → Tables
 tablesWith group = record {
   rulebook = 1;
   contracts = 1;
-  contract = λ place. record { id = 101; sort = 1; product = 0; largest = lots 1000 };
+  contract = λ place. futures 101 1000;
   accounts = 2;
   account = λ place. record { number = 11 + place; group = pick (eqb place 0) group 2; kind = pick (eqb place 0) 1 2; spare = 0 };
 }
 
--- account 11 buys one lot of contract 101 and sells it too; both orders are plain limit and ordinary
+-- account 11 trades with itself
 unfoldable pub ownTrade : Record
-ownTrade = record {
-  sort = 1;
-  spare = 0;
-  contract = 101;
-  first = 11;
-  second = 11;
-  lots = lots 1;
-  instruction = 1;
-  purpose = 1;
-  instruction2 = 1;
-  purpose2 = 1;
-}
+ownTrade = plainTrade 11 11
 
 -- five of them, and so an offence
 unfoldable pub dayOf : (date group : ℕ) → Ended

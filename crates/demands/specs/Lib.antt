@@ -8,5 +8,6 @@ pub mod Demand2
 pub mod Join
 pub mod Restrictions
 pub mod Demand3
+pub mod Samples
 pub mod Example
 pub mod Starred

@@ -16,6 +16,7 @@ use Rattle.daylog.specs.declared.record.Record.{Record}
 use Rattle.daylog.specs.Tables.{Tables}
 use Rattle.desk.specs.Counting.{countsFor}
 use Rattle.demands.specs.Counts.{offence}
+use Rattle.demands.specs.Samples.{futures, plainTrade}
 
 -- ---- the days of the rows
 -- futures contracts 101, 102 and so on with one largest order, all of product 0 and so of family 0 in both rulebooks;
@@ -24,25 +25,14 @@ unfoldable pub dayWith : (rulebook contracts largest : ℕ) → Tables
 dayWith rulebook contracts largest = record {
   rulebook = rulebook;
   contracts = contracts;
-  contract = λ place. record { id = 101 + place; sort = 1; product = 0; largest = lots largest };
+  contract = λ place. futures (101 + place) largest;
   accounts = 2;
   account = λ place. record { number = 11 + place; group = 3; kind = 1; spare = 0 };
 }
 
--- account 11 buys one lot of contract 101 and account 12 sells it; both orders are plain limit and ordinary
+-- account 11 buys and account 12 sells
 unfoldable pub trade : Record
-trade = record {
-  sort = 1;
-  spare = 0;
-  contract = 101;
-  first = 11;
-  second = 12;
-  lots = lots 1;
-  instruction = 1;
-  purpose = 1;
-  instruction2 = 1;
-  purpose2 = 1;
-}
+trade = plainTrade 11 12
 
 -- account 11 cancels an ordinary order of an amount in lots, with an instruction, on a contract
 unfoldable pub cancel : (contract amount instruction : ℕ) → Record

@@ -6,21 +6,23 @@ use Prim.Native.Nat.{ℕ}
 use borrow.Author.Tests.{eqb-true, eqb-false}
 use lib.Dec.{eqb}
 use lib.ListN.{length}
-use Rattle.demands.specs.Calls.{Call, makeBook, openDay, takeRecord, endDay, abandonDay, askBook, numberIn, Desk, Given, Gives, fresh-gives, open-gives, take-gives, end-gives, abandon-gives, ask-gives, none, next}
+use Rattle.demands.specs.Calls.{Step, makeBook, openDay, takeRecord, endDay, abandonDay, askBook, lendFindings, numberIn, Desk, Given, Gives, fresh-gives, open-gives, take-gives, end-gives, abandon-gives, ask-gives, lend-gives, none, next}
 use Rattle.demands.specs.Logs.{front, rowsOf, isEnd, Reads, stops, cut, takes, take-refused, end-refused, ends, follows, clerkDesk, Judges, open-refused, opened, fileAfter, none as no-log, next as one-log}
-use Rattle.demands.specs.Demand2.{AlwaysAnswered, AlwaysRead}
+use Rattle.demands.specs.Demand1.{AlwaysAnswered}
+use Rattle.demands.specs.Demand2.{AlwaysRead}
 
-record Reply (w : Desk) (c : Call) : Type 0 where
+record Reply (w : Desk) (c : Step) : Type 0 where
   given : Given
   gives : Gives w c given
 
-reply : (w : Desk) (c : Call) → Reply w c
+reply : (w : Desk) (c : Step) → Reply w c
 reply w (makeBook rulebook) = record { given = _; gives = fresh-gives (record { answer = refl; book = refl }) }
 reply w (openDay log) = record { given = _; gives = open-gives (record { answer = refl; counts = refl }) }
 reply w (takeRecord row) = record { given = _; gives = take-gives (record { answer = refl; counts = refl }) }
 reply w (endDay row) = record { given = _; gives = end-gives (record { answer = refl; book-after = refl; findings-after = refl }) }
 reply w abandonDay = record { given = _; gives = abandon-gives refl }
 reply w (askBook group kind family) = record { given = _; gives = ask-gives refl }
+reply w (lendFindings out) = record { given = _; gives = lend-gives }
 
 pub answers : AlwaysAnswered
 answers w [] = record { given = []; ran = none }

@@ -1,7 +1,7 @@
 -- Each call on its own: where the desk stands as the paper does, it gives what the paper says and stands so again. Assumes nothing.
-use mathlib.Core.Path.{_≡_, refl, _∙_}
+use mathlib.Core.Path.{_≡_, refl, sym, ap, ap₂, _∙_, subst}
 use mathlib.Core.Bool.{Bool, true, false}
-use mathlib.Core.List.{List, [], _∷_}
+use mathlib.Core.List.{List, [], _∷_, map}
 use Prim.Native.Nat.{ℕ, _+_}
 use native.Mathlib.Numerals.{add-one}
 use borrow.Author.Tests.{eqb-true}
@@ -29,8 +29,9 @@ use Rattle.desk.specs.Findings.{findings, bookAfter, foundCount}
 use Rattle.desk.specs.End.{inCells, endFault}
 use Rattle.desk.proofs.OpenLaws.{room-there}
 use Rattle.demands.specs.Counts.{timesOn}
-use Rattle.demands.specs.Calls.{Call, moved, ended, Desk, Given, stateAfter, logAfter, endState, Gives, fresh-gives, open-gives, take-gives, end-gives, abandon-gives, ask-gives}
-use Rattle.demands.specs.Paper.{Course, idle, during, Paper, Ruled, dayIn, takeNumber, endRefusal, openRuled, takeRuled, endRuled, rule}
+use Rattle.demands.specs.Calls.{Step, Reply, moved, ended, Desk, Given, stateAfter, logAfter, endState, Gives, fresh-gives, open-gives, take-gives, end-gives, abandon-gives, ask-gives, lend-gives, Ran, none, next, left}
+use Rattle.demands.specs.Paper.{Course, idle, during, Paper, Ruled, dayIn, takeNumber, endRefusal, openRuled, takeRuled, endRuled, rule, rules, paperAfter}
+use Rattle.demands.specs.Demand2.{Seen, seen, ruled, begun}
 use Rattle.demands.proofs.DayLaws.{Agrees, agrees-open, agrees-take, raised-room, zeroed-length, take-is, end-is, count-is, book-is, findings-are}
 
 abbrev pub desk : State → (log counts book out : List ℕ) → Desk
@@ -52,6 +53,10 @@ stands-book (busy n a) = refl
 pub stands-out : {w : Desk} {p : Paper} → Stands w p → w .out ≡ p .out
 stands-out (rest n) = refl
 stands-out (busy n a) = refl
+
+-- a desk on which no day is open stands so
+pub begins : (w : Desk) → w .state ≡ Closed → Stands w (begun w)
+begins w e = subst (λ (s : State). Stands (desk s (w .log) (w .counts) (w .book) (w .out)) (begun w)) (sym e) (rest refl)
 
 pub record Same (g : Given) (r : Ruled) : Type 0 where
   pub reply : g .reply ≡ r .reply
@@ -88,7 +93,7 @@ open-step log₀ log c book out room n = rw (← n) (go (handedFault log book (l
     go fault false q e = record { reply = refl; after = rest refl }
 
 -- ---- a record taken
-no-record-fault : (log : List ℕ) (rs : List Record) (row : List ℕ) → takeNumber log rs row ≡ 0 → tableFault (tablesOf log) (recordOf row) ≡ 0
+pub no-record-fault : (log : List ℕ) (rs : List Record) (row : List ℕ) → takeNumber log rs row ≡ 0 → tableFault (tablesOf log) (recordOf row) ≡ 0
 unfolding takeNumber
 no-record-fault log rs row e = or-none (tableFault (tablesOf log) (recordOf row)) _ (pick-zero _ 1 _ (lit< tt) e .1) .0
 
@@ -148,13 +153,15 @@ end-step log c book out rs row room n a =
     go fault true e = record { reply = refl; after = rest n }
     go fault false e = record { reply = refl; after = busy n a }
 
--- ---- any call
-pub step : {w : Desk} {p : Paper} {c : Call} {g : Given} → Stands w p → Gives w c g → Same g (rule p (p .course) c)
+-- ---- any step
+pub step : {w : Desk} {p : Paper} {c : Step} {g : Given} → Stands w p → Gives w c g → Same g (rule p (p .course) c)
 unfolding rule openFault takeFault endFault abandonAnswer answered pick
 step (rest n) (fresh-gives m) = rw (m .answer, m .book) (record { reply = refl; after = rest n })
 step (busy n a) (fresh-gives m) = rw (m .answer, m .book) (record { reply = refl; after = busy n a })
 step (rest n) (ask-gives e) = rw e (record { reply = refl; after = rest n })
 step (busy n a) (ask-gives e) = rw e (record { reply = refl; after = busy n a })
+step (rest n) lend-gives = record { reply = refl; after = rest n }
+step (busy n a) lend-gives = record { reply = refl; after = busy n a }
 step (rest {held} {c} {book} {out} {room} n) (open-gives {log} m) = rw (m .answer, m .counts) (open-step held log c book out room n)
 step (busy n a) (open-gives m) = rw (m .answer, m .counts) (record { reply = refl; after = busy n a })
 step (rest n) (take-gives m) = rw (m .answer, m .counts) (record { reply = refl; after = rest n })
@@ -163,3 +170,21 @@ step (rest n) (end-gives m) = rw (m .answer, m .book-after, m .findings-after) (
 step (busy {log} {c} {book} {out} {rs} {room} n a) (end-gives {row} m) = rw (m .answer, m .book-after, m .findings-after) (end-step log c book out rs row room n a)
 step (rest n) (abandon-gives e) = rw e (record { reply = refl; after = rest n })
 step (busy n a) (abandon-gives e) = rw e (record { reply = refl; after = rest n })
+
+-- ---- any list of steps: what is seen of each, and how the desk then stands
+same-seen : {reply reply′ : Reply} {book book′ out out′ : List ℕ} → reply ≡ reply′ → book ≡ book′ → out ≡ out′
+    → _≡_ {A = Seen} (record { reply = reply; book = book; out = out }) (record { reply = reply′; book = book′; out = out′ })
+same-seen p q r = rw (p, q, r)
+
+pub runs-read : {A : Type 0} (read : Seen → A) {w : Desk} {p : Paper} {cs : List Step} {gs : List Given} → Stands w p → Ran w cs gs
+    → map (λ g. read (seen g)) gs ≡ map (λ r. read (ruled r)) (rules p cs)
+unfolding rules
+runs-read read s none = refl
+runs-read {A} read s (next g r) =
+    let t = step s g in
+    ap₂ {C = List A} (λ x xs. x ∷ xs) (ap read (same-seen (t .reply) (stands-book (t .after)) (stands-out (t .after)))) (runs-read read (t .after) r)
+
+pub runs-stand : {w : Desk} {p : Paper} {cs : List Step} {gs : List Given} → Stands w p → Ran w cs gs → Stands (left w gs) (paperAfter p cs)
+unfolding left paperAfter
+runs-stand s none = s
+runs-stand s (next g r) = runs-stand (step s g .after) r

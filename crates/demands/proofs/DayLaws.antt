@@ -8,6 +8,7 @@ use native.Mathlib.Omega.{arith}
 use borrow.Author.Tests.{le-leb, le-ltb, eq-eqb}
 use lib.Dec.{leb, ltb, eqb}
 use lib.ListN.{length, getD, drop, replicate, length-append, length-replicate, length-drop, getD-replicate, List·getD-append}
+use lib.Seq.{drop-at}
 use Rattle.wire.specs.Choice.{pick, orElse}
 use Rattle.wire.specs.Bytes.{bytes}
 use Rattle.wire.proofs.ChoiceLaws.{or-pick, or-assoc, or-after, pick-no, flip-no}
@@ -33,14 +34,16 @@ use Rattle.desk.specs.Findings.{laterYear, totalAfter, foundAt, findings, bookA
 use Rattle.desk.specs.End.{rowFault, cellsGood, inCells, countsFault, lentFault, endFault}
 use Rattle.demands.specs.Counts.{howMany, timesOf, timesOn}
 use Rattle.demands.specs.Paper.{dayIn, takeNumber, endRefusal}
-use Rattle.demands.proofs.CountLaws.{In, cell-there, cell-in, cell-is, raised-length, raised-at}
+use Rattle.demands.specs.Lent.{HasCell}
+use Rattle.demands.proofs.CountLaws.{cell-there, cell-in, cell-is, raised-length, raised-past, raised-at}
 use Rattle.demands.proofs.ManyLaws.{many-le}
-use Rattle.demands.proofs.TableLaws.{known-tables, has-record, placed}
+use Rattle.demands.proofs.TableLaws.{known-tables, has-record, placed, none-past}
 
 pub record Agrees (log : List ℕ) (rs : List Record) (c : List ℕ) : Type 0 where
   pub sound : logFault log ≡ 0
   pub long : 12288 ≤ length c
-  pub cells : (g k place : ℕ) → In g k place → getD c (cellOf g k place) 0 ≡ timesOf (tablesOf log) rs g k place
+  pub cells : (g k place : ℕ) → HasCell g k place → getD c (cellOf g k place) 0 ≡ timesOf (tablesOf log) rs g k place
+  pub spare : (g k place : ℕ) → tablesOf log .contracts ≤ place → timesOf (tablesOf log) rs g k place ≡ 0
 
 -- ---- a day begins, and goes on
 zero-at : (c : List ℕ) (i : ℕ) → i < 12288 → getD (zeroed c) i 0 ≡ 0
@@ -53,33 +56,48 @@ unfolding zeroed
 zeroed-length c h =
     omega (arith, length-append (replicate 12288 0) (drop 12288 c), length-replicate {A = ℕ} 12288 0, length-drop 12288 c)
 
+pub zeroed-past : (c : List ℕ) → drop 12288 (zeroed c) ≡ drop 12288 c
+unfolding zeroed
+zeroed-past c = drop-at (replicate 12288 0) (drop 12288 c) 12288 (length-replicate {A = ℕ} 12288 0)
+
 pub agrees-open : (log c : List ℕ) → logFault log ≡ 0 → 12288 ≤ length c → Agrees log [] (zeroed c)
 unfolding timesOf howMany
 agrees-open log c e h = record {
   sound = e;
   long = omega (arith, zeroed-length c h);
   cells = λ g k place i. zero-at c (cellOf g k place) (cell-there g k place i);
+  spare = λ g k place l. refl;
 }
 
+-- a record without fault has a cell for each kind
+own-cells : (log : List ℕ) (rs : List Record) (c : List ℕ) (r : Record) → Agrees log rs c → tableFault (tablesOf log) r ≡ 0
+    → (k : ℕ) → 1 ≤ k → k ≤ 3 → HasCell (planOf (tablesOf log) r .group) k (planOf (tablesOf log) r .place)
+own-cells log rs c r a e = placed (tablesOf log) (known-tables log (a .sound)) r (has-record (tablesOf log) r e)
+
+-- raising leaves as many counts, and those past the cells
 pub raised-room : (log : List ℕ) (rs : List Record) (c : List ℕ) (r : Record) → Agrees log rs c → tableFault (tablesOf log) r ≡ 0
     → length (raised (planOf (tablesOf log) r) c) ≡ length c
-raised-room log rs c r a e =
-    raised-length (planOf (tablesOf log) r) c (placed (tablesOf log) (known-tables log (a .sound)) r (has-record (tablesOf log) r e)) (a .long)
+raised-room log rs c r a e = raised-length (planOf (tablesOf log) r) c (own-cells log rs c r a e) (a .long)
+
+pub raised-rest : (log : List ℕ) (rs : List Record) (c : List ℕ) (r : Record) → Agrees log rs c → tableFault (tablesOf log) r ≡ 0
+    → drop 12288 (raised (planOf (tablesOf log) r) c) ≡ drop 12288 c
+raised-rest log rs c r a e = raised-past (planOf (tablesOf log) r) c (own-cells log rs c r a e) (a .long)
 
 pub agrees-take : (log : List ℕ) (rs : List Record) (c : List ℕ) (r : Record) → Agrees log rs c → tableFault (tablesOf log) r ≡ 0
     → Agrees log (r ∷ rs) (raised (planOf (tablesOf log) r) c)
 unfolding timesOf howMany countsFor
 agrees-take log rs c r a e =
     let t = tablesOf log in
-    let own = placed t (known-tables log (a .sound)) r (has-record t r e) in record {
+    let own = own-cells log rs c r a e in record {
       sound = a .sound;
       long = omega (arith, a .long, raised-room log rs c r a e);
       cells = λ g k place i. omega (arith, raised-at (planOf t r) c own (a .long) g place k i, a .cells g k place i);
+      spare = λ g k place l. omega (arith, pick-no {A = ℕ} (countsFor t r g k place) 0 1 0 (none-past t r (has-record t r e) g k place l) refl, a .spare g k place l);
     }
 
 -- ---- no cell stands above the records taken
 module _ (log : List ℕ) (rs : List Record) (c : List ℕ) (a : Agrees log rs c) where
-  pub low : (g k place : ℕ) → In g k place → getD c (cellOf g k place) 0 ≤ length rs
+  pub low : (g k place : ℕ) → HasCell g k place → getD c (cellOf g k place) 0 ≤ length rs
   unfolding timesOf
   low g k place i = omega (arith, a .cells g k place i, many-le (λ r. countsFor (tablesOf log) r g k place) rs)
 
@@ -95,7 +113,7 @@ module _ (log : List ℕ) (rs : List Record) (c : List ℕ) (a : Agrees log rs c
   kind-stands r e k l h =
       let t = tablesOf log in
       let p = planOf t r in
-      ap (λ (b : Bool). counted p k && b) (le-ltb (length rs) (getD c (cellOf (p .group) k (p .place)) 0) (low (p .group) k (p .place) (placed t (known-tables log (a .sound)) r (has-record t r e) k l h)))
+      ap (λ (b : Bool). counted p k && b) (le-ltb (length rs) (getD c (cellOf (p .group) k (p .place)) 0) (low (p .group) k (p .place) (own-cells log rs c r a e k l h)))
       ∙ and-false (counted p k)
 
   cells-stand : (r : Record) → tableFault (tablesOf log) r ≡ 0 → cellsChanged (length rs) (planOf (tablesOf log) r) c ≡ false

@@ -2,65 +2,59 @@
 use mathlib.Core.Path.{_≡_, refl, sym, ap, ap₂, _∙_, subst}
 use mathlib.Core.Logic.{_⊎_, inl, inr}
 use mathlib.Core.Bool.{Bool, true, false}
-use mathlib.Core.List.{List, [], _∷_, map}
+use mathlib.Core.List.{List, [], _∷_, map, _++_}
 use Prim.Native.Nat.{ℕ}
+use native.Mathlib.Omega.{arith}
 use borrow.Author.Tests.{eqb-true, eq-eqb, le-leb}
 use lib.Dec.{leb, eqb, lit<}
-use lib.ListN.{length}
+use lib.ListN.{length, replicate}
 use Rattle.wire.specs.Choice.{pick, within}
+use Rattle.wire.specs.Buffers.{put, rows}
 use Rattle.wire.proofs.ChoiceLaws.{pick-yes, pick-no, pick-zero, or-none, and-yes}
+use Rattle.calendar.specs.Dates.{year}
 use Rattle.book.specs.Fresh.{freshFault, freshBook}
+use Rattle.book.specs.Layout.{ladders}
 use Rattle.book.specs.Sound.{sound}
 use Rattle.book.proofs.FreshLaws.{made, fresh-holds}
 use Rattle.daylog.specs.declared.record.Record.{Record}
-use Rattle.desk.specs.declared.state.State.{State}
-use Rattle.desk.specs.declared.state.State.the-variants.{Closed}
 use Rattle.daylog.specs.Header.{headerOf, logFault}
+use Rattle.daylog.specs.Tables.{tablesOf}
 use Rattle.desk.specs.Open.{bookFault, handedFault}
+use Rattle.desk.specs.Findings.{foundAt, findings}
 use Rattle.desk.specs.End.{rowFault}
-use Rattle.calendar.specs.Dates.{year}
-use Rattle.demands.specs.Counts.{howMany}
-use Rattle.demands.specs.Days.{Ended, offenceDays, lastOf, bookOver}
-use Rattle.demands.specs.Calls.{Call, makeBook, openDay, takeRecord, endDay, abandonDay, askBook, Reply, numberIn, Desk, Given, Ran, none, next}
-use Rattle.demands.specs.Paper.{during, Paper, dayIn, endRefusal, endRuled, openRuled, takeRuled, rule, rules}
-use Rattle.demands.specs.Logs.{front, rowsOf, recordsIn, logNumber, dayBook, ruledFile, ruledLogs}
-use Rattle.demands.specs.Demand2.{Seen, seen, ruled, begun, CallsRuled, None, none as nothing, more, NeverChanged, NeverUnsound, FindingsListed, History, recorded, history, left, FreshIsOfNone, FreshRun, since, BookOfDays, TotalsCounted, LogsRuled, AlwaysAnswered, AlwaysRead, logDays, lastFile, FileOfDays}
-use Rattle.demands.proofs.CallLaws.{Stands, rest, busy, step, stands-book, stands-out, handed-parts, desk, paper}
+use Rattle.demands.specs.Counts.{timesOn}
+use Rattle.demands.specs.Days.{Ended, endedDay, totalOver, bookOver, foundOn, blank}
+use Rattle.demands.specs.Calls.{Step, makeBook, openDay, takeRecord, endDay, abandonDay, askBook, lendFindings, Reply, numberIn, Desk, Given, Gives, Ran, none, next, left}
+use Rattle.demands.specs.Paper.{idle, during, Paper, dayIn, endRefusal, endRuled, openRuled, takeRuled, rule, rules, paperAfter}
+use Rattle.demands.specs.Logs.{front, rowsOf, recordsIn, logNumber, dayBook, ruledFile, Judged, JudgesAll, ruledLogs}
+use Rattle.demands.specs.Demand2.{begun, CallsRuled, CellsCounted, None, none as nothing, more, NeverChanged, SoundRun, NeverUnsound, FindingsListed, LowestId, History, recorded, history, since, BookOfDays, TotalsCounted, FreshIsBlank, BlankCarriesNothing, SanctionsFound, Found, FindingsFound, LogsRuled, AlwaysRead, logDays, lastFile, FileOfDays, LogsFound}
+use Rattle.demands.proofs.CallLaws.{Stands, rest, busy, step, stands-book, begins, runs-read, runs-stand, handed-parts, paper}
+use Rattle.demands.proofs.LentLaws.{cells-counted as counted}
 use Rattle.demands.proofs.ListedLaws.{findings-list}
-use Rattle.demands.proofs.NumberLaws.{number-is, never-19, never-17}
-use Rattle.demands.proofs.Answers.{answers, reads}
-use Rattle.demands.proofs.LogLaws.{judges-ruled}
-use Rattle.demands.proofs.TotalLaws.{Ready, Kept, kept-none, kept-day, last-is, total-was, dayOf, ready, ended-sound}
+use Rattle.demands.proofs.IdLaws.{lowest-id as lowest}
+use Rattle.demands.proofs.NumberLaws.{refusal, number-is, never-19, never-17}
+use Rattle.demands.proofs.Answers.{reads}
+use Rattle.demands.proofs.LogLaws.{call-number, end-number, end-holds, judges, judges-ruled}
+use Rattle.demands.proofs.TotalLaws.{Ready, Kept, kept-none, kept-day, blank-sound, blank-carries, ready, ended-sound}
 
--- ---- any list of calls
-pub always-answered : AlwaysAnswered
-always-answered = answers
-
-same-seen : {reply reply′ : Reply} {book book′ out out′ : List ℕ} → reply ≡ reply′ → book ≡ book′ → out ≡ out′
-    → _≡_ {A = Seen} (record { reply = reply; book = book; out = out }) (record { reply = reply′; book = book′; out = out′ })
-same-seen p q r = rw (p, q, r)
-
-pub begins : (w : Desk) → w .state ≡ Closed → Stands w (begun w)
-begins w e = subst (λ (s : State). Stands (desk s (w .log) (w .counts) (w .book) (w .out)) (begun w)) (sym e) (rest refl)
-
-runs : {w : Desk} {p : Paper} {cs : List Call} {gs : List Given} → Stands w p → Ran w cs gs → map seen gs ≡ map ruled (rules p cs)
-unfolding rules
-runs s none = refl
-runs s (next g r) =
-    let t = step s g in
-    ap₂ {C = List Seen} (λ x xs. x ∷ xs) (same-seen (t .reply) (stands-book (t .after)) (stands-out (t .after))) (runs (t .after) r)
-
+-- ---- any list of steps
 pub calls-ruled : CallsRuled
-calls-ruled w cs gs e r = runs (begins w e) r
+calls-ruled w cs gs e r = runs-read (λ x. x) (begins w e) r
 
 pub findings-listed : FindingsListed
 findings-listed t rs date book = findings-list t rs date book
+
+pub cells-counted : CellsCounted
+cells-counted = counted
+
+pub lowest-id : LowestId
+lowest-id = lowest
 
 -- ---- refusals
 pub never-changed : NeverChanged
 never-changed w cs gs e r = all (begins w e) r
   where
-    all : {w : Desk} {p : Paper} {cs : List Call} {gs : List Given} → Stands w p → Ran w cs gs → None 19 gs
+    all : {w : Desk} {p : Paper} {cs : List Step} {gs : List Given} → Stands w p → Ran w cs gs → None 19 gs
     all s none = nothing
     all {p = p} s (next {c = c} g r) =
         let t = step s g in
@@ -72,7 +66,7 @@ unfolding pick
 book-of true p q e = e
 book-of false p q e = refl
 
--- the book that a call leaves: as it was, but for a fresh one and at a day's end
+-- the book that a step leaves: as it was, but for a fresh one and at a day's end
 same-book : {w : Desk} {p : Paper} → Stands w p → (log : List ℕ) → rule p (p .course) (openDay log) .after .book ≡ p .book
 unfolding rule openRuled
 same-book (rest n) log = book-of _ _ _ refl
@@ -96,7 +90,7 @@ end-ready log rs row book room e f =
     ready log book e (or-none (bookFault (headerOf log) book) _ (q .1) .0)
 
 -- ---- the book stays sound
-kept-fresh : (book : List ℕ) (rulebook : ℕ) → eqb (freshFault (length book) rulebook) 0 ≡ false → freshBook book rulebook ≡ book
+pub kept-fresh : (book : List ℕ) (rulebook : ℕ) → eqb (freshFault (length book) rulebook) 0 ≡ false → freshBook book rulebook ≡ book
 unfolding freshBook
 kept-fresh book rulebook e = sym (pick-no _ _ _ _ e refl)
 
@@ -107,10 +101,11 @@ sound-fresh book rulebook good = go (eqb (freshFault (length book) rulebook) 0) 
     go true e = fresh-holds book rulebook (eqb-true _ 0 e) .good
     go false e = ap sound (kept-fresh book rulebook e) ∙ good
 
-sound-step : {w : Desk} {p : Paper} → Stands w p → sound (p .book) ≡ true → (c : Call) → sound (rule p (p .course) c .after .book) ≡ true
+sound-step : {w : Desk} {p : Paper} → Stands w p → sound (p .book) ≡ true → (c : Step) → sound (rule p (p .course) c .after .book) ≡ true
 unfolding rule endRuled
 sound-step s good (makeBook rulebook) = sound-fresh _ rulebook good
 sound-step s good (askBook group kind family) = good
+sound-step s good (lendFindings out) = good
 sound-step s good (openDay log) = ap sound (same-book s log) ∙ good
 sound-step s good (takeRecord row) = ap sound (taken-book s row) ∙ good
 sound-step s good abandonDay = ap sound (left-book s) ∙ good
@@ -124,84 +119,142 @@ sound-step (busy {log} {c} {book} {out} {rs} {room} n a) good (endDay row) = go 
     go false e = ap (λ (q : Paper). sound (q .book)) (sym (pick-no _ _ _ _ e refl)) ∙ good
 
 pub never-unsound : NeverUnsound
-never-unsound w cs gs e good r = all (begins w e) good r
+never-unsound w cs gs r = all (begins w (r .closed)) (r .good) (r .ran)
   where
-    all : {w : Desk} {p : Paper} {cs : List Call} {gs : List Given} → Stands w p → sound (p .book) ≡ true → Ran w cs gs → None 17 gs
+    all : {w : Desk} {p : Paper} {cs : List Step} {gs : List Given} → Stands w p → sound (p .book) ≡ true → Ran w cs gs → None 17 gs
     all s good none = nothing
     all {p = p} s good (next {c = c} g r) =
         let t = step s g in
         more (λ q. never-17 p (p .course) c good (sym (number-is p (p .course) c) ∙ ap numberIn (sym (t .reply)) ∙ q)) (all (t .after) (sound-step s good c) r)
 
--- ---- totals
-one-of : (rulebook : ℕ) → (rulebook ≡ 1) ⊎ (rulebook ≡ 2) → within 1 2 rulebook ≡ true
+-- ---- the days
+pub one-of : (rulebook : ℕ) → (rulebook ≡ 1) ⊎ (rulebook ≡ 2) → within 1 2 rulebook ≡ true
 one-of rulebook (inl e) = rw e
 one-of rulebook (inr e) = rw e
 
 -- the book is that of a history
 abbrev pub Holds : History → List ℕ → Type 0
-Holds h book = Kept (h .rulebook) (h .days) book
+Holds h book = Kept (h .from) (h .days) book
 
 made-known : (len rulebook : ℕ) → freshFault len rulebook ≡ 0 → within 1 2 rulebook ≡ true
 made-known len rulebook e =
     let m = made len rulebook e in
     and-yes (leb 1 rulebook) (leb rulebook 2) (le-leb 1 rulebook (m .first-rulebook)) (le-leb rulebook 2 (m .last-rulebook))
 
-pub fresh-is-of-none : FreshIsOfNone
-unfolding freshBook bookOver offenceDays howMany lastOf
-fresh-is-of-none book rulebook e = sym (pick-yes _ _ _ _ (eq-eqb _ 0 e) refl)
+pub fresh-is-blank : FreshIsBlank
+unfolding freshBook blank
+fresh-is-blank book rulebook e = sym (pick-yes _ _ _ _ (eq-eqb _ 0 e) refl)
+
+pub blank-carries-nothing : BlankCarriesNothing
+blank-carries-nothing rulebook y l h = blank-carries rulebook y l h
 
 pub holds-fresh : (h : History) (book : List ℕ) (rulebook : ℕ) → Holds h book
-    → Holds (pick (eqb (freshFault (length book) rulebook) 0) (record { rulebook = rulebook; days = [] }) h) (freshBook book rulebook)
+    → Holds (pick (eqb (freshFault (length book) rulebook) 0) (record { from = blank rulebook; days = [] }) h) (freshBook book rulebook)
 holds-fresh h book rulebook k = go (eqb (freshFault (length book) rulebook) 0) refl
   where
     go : (t : Bool) → eqb (freshFault (length book) rulebook) 0 ≡ t
-        → Holds (pick (eqb (freshFault (length book) rulebook) 0) (record { rulebook = rulebook; days = [] }) h) (freshBook book rulebook)
+        → Holds (pick (eqb (freshFault (length book) rulebook) 0) (record { from = blank rulebook; days = [] }) h) (freshBook book rulebook)
     go true e =
+        let z = eqb-true _ 0 e in
         subst (λ (q : History). Holds q (freshBook book rulebook)) (pick-yes _ _ _ _ e refl)
-        (subst (Kept rulebook []) (sym (fresh-is-of-none book rulebook (eqb-true _ 0 e))) (kept-none rulebook (made-known (length book) rulebook (eqb-true _ 0 e))))
+        (subst (Kept (blank rulebook) []) (sym (fresh-is-blank book rulebook z)) (kept-none (blank rulebook) (blank-sound rulebook (made-known (length book) rulebook z))))
     go false e =
         subst (λ (q : History). Holds q (freshBook book rulebook)) (pick-no _ _ _ _ e refl)
-        (subst (Kept (h .rulebook) (h .days)) (sym (kept-fresh book rulebook e)) k)
+        (subst (Kept (h .from) (h .days)) (sym (kept-fresh book rulebook e)) k)
 
 choose : (t : Bool) (h₁ h : History) (p₁ p : Paper) → (t ≡ true → Holds h₁ (p₁ .book)) → Holds h (p .book) → Holds (pick t h₁ h) (pick t p₁ p .book)
 unfolding pick
 choose true h₁ h p₁ p y n = y refl
 choose false h₁ h p₁ p y n = n
 
-holds-step : {w : Desk} {p : Paper} (h : History) → Stands w p → Holds h (p .book) → (c : Call)
+holds-step : {w : Desk} {p : Paper} (h : History) → Stands w p → Holds h (p .book) → (c : Step)
     → Holds (recorded p (p .course) c h) (rule p (p .course) c .after .book)
 unfolding rule endRuled recorded
 holds-step h s k (makeBook rulebook) = holds-fresh h _ rulebook k
 holds-step h s k (askBook group kind family) = k
-holds-step h s k (openDay log) = subst (Kept (h .rulebook) (h .days)) (sym (same-book s log)) k
-holds-step h s k (takeRecord row) = subst (Kept (h .rulebook) (h .days)) (sym (taken-book s row)) k
-holds-step h s k abandonDay = subst (Kept (h .rulebook) (h .days)) (sym (left-book s)) k
+holds-step h s k (lendFindings out) = k
+holds-step h s k (openDay log) = subst (Kept (h .from) (h .days)) (sym (same-book s log)) k
+holds-step h s k (takeRecord row) = subst (Kept (h .from) (h .days)) (sym (taken-book s row)) k
+holds-step h s k abandonDay = subst (Kept (h .from) (h .days)) (sym (left-book s)) k
 holds-step h (rest n) k (endDay row) = k
 holds-step h (busy {log} {c} {book} {out} {rs} {room} n a) k (endDay row) =
     choose (eqb (endRefusal log rs row book (length out)) 0) _ h _ (paper (during log rs) book out room)
-    (λ e. kept-day (h .rulebook) (h .days) log book rs k (end-ready log rs row book (length out) (a .sound) (eqb-true _ 0 e))) k
+    (λ e. kept-day (h .from) (h .days) log book rs k (end-ready log rs row book (length out) (a .sound) (eqb-true _ 0 e))) k
 
-pub begun-kept : (rulebook : ℕ) (w : Desk) (cs : List Call) (gs : List Given) → FreshRun rulebook w cs gs → Kept rulebook [] (w .book)
-begun-kept rulebook w cs gs r = subst (Kept rulebook []) (sym (r .fresh)) (kept-none rulebook (one-of rulebook (r .known)))
-
-holds-run : {w : Desk} {p : Paper} {cs : List Call} {gs : List Given} (h : History) → Stands w p → Holds h (p .book) → Ran w cs gs
-    → Holds (history p h cs) (left w gs .book)
-unfolding left history
-holds-run h s k none = subst (Kept (h .rulebook) (h .days)) (sym (stands-book s)) k
+-- ---- what a run leaves
+holds-run : {w : Desk} {p : Paper} {cs : List Step} {gs : List Given} (h : History) → Stands w p → Holds h (p .book) → Ran w cs gs
+    → Holds (history p h cs) (paperAfter p cs .book)
+unfolding paperAfter history
+holds-run h s k none = k
 holds-run {p = p} h s k (next {c = c} g r) = holds-run (recorded p (p .course) c h) (step s g .after) (holds-step h s k c) r
 
--- what a run from a fresh book leaves
-pub fresh-run : (rulebook : ℕ) (w : Desk) (cs : List Call) (gs : List Given) → FreshRun rulebook w cs gs → Holds (since rulebook w cs) (left w gs .book)
-fresh-run rulebook w cs gs r =
-    holds-run (record { rulebook = rulebook; days = [] }) (begins w (r .closed)) (begun-kept rulebook w cs gs r) (r .ran)
+-- a desk and a paper that stand alike, with the days and their book
+pub record Stood (w : Desk) (p : Paper) (h : History) : Type 0 where
+  pub stands : Stands w p
+  pub holds : Holds h (p .book)
+
+pub sound-run : {w : Desk} {cs : List Step} {gs : List Given} → SoundRun w cs gs → Stood (left w gs) (paperAfter (begun w) cs) (since w cs)
+sound-run {w} r =
+    let s = begins w (r .closed) in
+    record { stands = runs-stand s (r .ran); holds = holds-run _ s (kept-none (w .book) (r .good)) (r .ran) }
+
+pub left-kept : {w : Desk} {cs : List Step} {gs : List Given} → SoundRun w cs gs → Holds (since w cs) (left w gs .book)
+left-kept {w} {cs} r = let s = sound-run r in subst (Holds (since w cs)) (sym (stands-book (s .stands))) (s .holds)
 
 pub book-of-days : BookOfDays
-book-of-days rulebook w cs gs r = fresh-run rulebook w cs gs r .is
+book-of-days w cs gs r = left-kept r .is
 
 pub totals-counted : TotalsCounted
-totals-counted rulebook w cs gs r l h =
-    let k = fresh-run rulebook w cs gs r in
-    total-was _ _ _ k l h ∙ ap (λ (n : ℕ). offenceDays (year n) l (since rulebook w cs .days)) (sym (last-is _ _ _ k))
+totals-counted w cs gs r l h =
+    let k = left-kept r in
+    k .total l h ∙ ap (λ (n : ℕ). totalOver (since w cs .from) (year n) l (since w cs .days)) (sym (k .last))
+
+pub sanctions-found : SanctionsFound
+sanctions-found w cs gs r = left-kept r .sanctions
+
+-- ---- an accepted end
+history-more : (p : Paper) (h : History) (cs : List Step) (c : Step)
+    → history p h (cs ++ c ∷ []) ≡ recorded (paperAfter p cs) (paperAfter p cs .course) c (history p h cs)
+unfolding history paperAfter
+history-more p h [] c = refl
+history-more p h (d ∷ cs) c = history-more (rule p (p .course) d .after) (recorded p (p .course) d h) cs c
+
+pub recorded-end : (p : Paper) (log : List ℕ) (rs : List Record) (row : List ℕ) (h : History) → endRefusal log rs row (p .book) (length (p .out)) ≡ 0
+    → recorded p (during log rs) (endDay row) h ≡ record { from = h .from; days = endedDay log rs ∷ h .days }
+unfolding recorded
+recorded-end p log rs row h e = sym (pick-yes _ _ _ _ (eq-eqb _ 0 e) refl)
+
+-- what the rules put in the buffer are the rows of what the day found
+rows-found : {from : List ℕ} {days : List Ended} (log book : List ℕ) (rs : List Record) → Kept from days book
+    → findings (tablesOf log) (headerOf log .date) book (timesOn (tablesOf log) rs) ≡ rows (foundOn from (endedDay log rs) days) ladders
+unfolding findings
+rows-found log book rs k = ap (λ (b : List ℕ). rows (foundAt (tablesOf log) (headerOf log .date) b (timesOn (tablesOf log) rs)) ladders) (k .is)
+
+record EndFound (v : Desk) (p : Paper) (h : History) (row : List ℕ) (g : Given) : Type 0 where
+  day : Ended
+  one-more : recorded p (p .course) (endDay row) h .days ≡ day ∷ h .days
+  bytes : g .after .out ≡ put (v .out) 0 (rows (foundOn (h .from) day (h .days)) ladders)
+
+end-found : {v : Desk} {p : Paper} (h : History) (row : List ℕ) (g : Given) → Stands v p → Holds h (p .book) → Gives v (endDay row) g
+    → numberIn (g .reply) ≡ 0 → EndFound v p h row g
+unfolding refusal
+end-found h row g (rest n) k m z = absurd (omega (arith, call-number (rest n) m))
+end-found h row g (busy {log} {c} {book} {out} {rs} {room} n a) k m z =
+    let s = busy n a in
+    let e : endRefusal log rs row book (length out) ≡ 0 = sym (end-number row s m) ∙ z in record {
+      day = endedDay log rs;
+      one-more = ap (λ (q : History). q .days) (recorded-end (paper (during log rs) book out room) log rs row h e);
+      bytes = end-holds row s m e .in-out ∙ ap (put out 0) (rows-found log book rs k);
+    }
+
+pub findings-found : FindingsFound
+findings-found w cs gs r row g m z =
+    let s = sound-run r in
+    let q = end-found (since w cs) row g (s .stands) (s .holds) m z in record {
+      day = q .day;
+      one-more = ap (λ (h : History). h .days) (history-more (begun w) _ cs (endDay row)) ∙ q .one-more;
+      bytes = q .bytes;
+    }
 
 -- ---- day logs
 pub logs-ruled : LogsRuled
@@ -210,28 +263,37 @@ logs-ruled = judges-ruled
 pub always-read : AlwaysRead
 always-read = reads
 
-kept-pick : (t : Bool) (rulebook : ℕ) (days₁ days : List Ended) (book₁ book : List ℕ) → (t ≡ true → Kept rulebook days₁ book₁) → Kept rulebook days book
-    → Kept rulebook (pick t days₁ days) (pick t book₁ book)
+kept-pick : (t : Bool) (from : List ℕ) (days₁ days : List Ended) (book₁ book : List ℕ) → (t ≡ true → Kept from days₁ book₁) → Kept from days book
+    → Kept from (pick t days₁ days) (pick t book₁ book)
 unfolding pick
-kept-pick true rulebook days₁ days book₁ book y n = y refl
-kept-pick false rulebook days₁ days book₁ book y n = n
+kept-pick true from days₁ days book₁ book y n = y refl
+kept-pick false from days₁ days book₁ book y n = n
 
-log-kept : (rulebook : ℕ) (days : List Ended) (book log : List ℕ) → Kept rulebook days book
-    → Kept rulebook (pick (eqb (logNumber book log) 0) (dayOf (front log) (recordsIn [] (rowsOf log)) ∷ days) days) (ruledFile book log)
+log-kept : (from : List ℕ) (days : List Ended) (book log : List ℕ) → Kept from days book
+    → Kept from (pick (eqb (logNumber book log) 0) (endedDay (front log) (recordsIn [] (rowsOf log)) ∷ days) days) (ruledFile book log)
 unfolding ruledFile logNumber
-log-kept rulebook days book log k =
-    kept-pick (eqb (logNumber book log) 0) rulebook _ days (dayBook book log) book
+log-kept from days book log k =
+    kept-pick (eqb (logNumber book log) 0) from _ days (dayBook book log) book
     (λ e.
     let q = handed-parts (front log) book 12288 (or-none (handedFault (front log) book 12288) _ (eqb-true _ 0 e) .0) in
-    kept-day rulebook days (front log) book (recordsIn [] (rowsOf log)) k (ready (front log) book (q .0) (q .1))) k
+    kept-day from days (front log) book (recordsIn [] (rowsOf log)) k (ready (front log) book (q .0) (q .1))) k
 
-file-kept : (rulebook : ℕ) (days : List Ended) (book : List ℕ) (logs : List (List ℕ)) → Kept rulebook days book
-    → lastFile book (ruledLogs book logs) ≡ bookOver rulebook (logDays book days logs)
+pub logs-kept : (from : List ℕ) (days : List Ended) (book : List ℕ) (logs : List (List ℕ)) → Kept from days book
+    → Kept from (logDays book days logs) (lastFile book (ruledLogs book logs))
 unfolding lastFile ruledLogs logDays
-file-kept rulebook days book [] k = k .is
-file-kept rulebook days book (log ∷ logs) k = file-kept rulebook _ (ruledFile book log) logs (log-kept rulebook days book log k)
+logs-kept from days book [] k = k
+logs-kept from days book (log ∷ logs) k = logs-kept from _ (ruledFile book log) logs (log-kept from days book log k)
+
+-- the file that a list of logs leaves
+pub file-kept : (book : List ℕ) (logs : List (List ℕ)) (js : List Judged) → sound book ≡ true → JudgesAll book logs js
+    → Kept book (logDays book [] logs) (lastFile book js)
+file-kept book logs js good r =
+    subst (λ (xs : List Judged). Kept book (logDays book [] logs) (lastFile book xs)) (sym (logs-ruled book logs js r)) (logs-kept book [] book logs (kept-none book good))
 
 pub file-of-days : FileOfDays
-file-of-days rulebook logs js one r =
-    ap (lastFile (bookOver rulebook [])) (logs-ruled (bookOver rulebook []) logs js r)
-    ∙ file-kept rulebook [] (bookOver rulebook []) logs (kept-none rulebook (one-of rulebook one))
+file-of-days book logs js good r = file-kept book logs js good r .is
+
+pub logs-found : LogsFound
+logs-found book logs js good r log w j =
+    judges (lastFile book js) log j .written refl .in-out
+    ∙ ap (put (replicate 49152 0) 0) (rows-found (front log) (lastFile book js) (recordsIn [] (rowsOf log)) (file-kept book logs js good r))

@@ -5,15 +5,17 @@ use native.Mathlib.Omega.{arith}
 use lib.Dec.{eqb}
 use Rattle.wire.specs.Choice.{pick}
 use Rattle.wire.specs.Places.{every, some, first}
+use Rattle.wire.specs.Bytes.{le, bytes}
 use Rattle.rules.specs.Choices.{byThree}
 use Rattle.rules.specs.Exemption.{known, exempt}
 use Rattle.rules.specs.Measure.{enough}
 use Rattle.rules.specs.Ladders.{family, rung, sanction}
+use Rattle.book.specs.Layout.{headOf, bookOf}
 use Rattle.desk.specs.Counting.{accountOf, contractOf, hasAccount, groupOf, planFor, planOf, counted, countsFor}
 use Rattle.desk.specs.Offences.{familyOf}
 use Rattle.desk.specs.Findings.{memberOn}
 use Rattle.demands.specs.Counts.{howMany, timesOf, reachesOn, offence}
-use Rattle.demands.specs.Days.{offenceOn, offenceDays}
+use Rattle.demands.specs.Days.{offenceOn, offenceDays, carried, totalOver, blank}
 use Rattle.demands.specs.Join.{Joined, joined}
 use Rattle.demands.specs.Restrictions.{sanctionOn, sanctions}
 use Rattle.demands.specs.Demand3.{InYear, none, more}
@@ -43,7 +45,7 @@ one-year = more refl (more refl (more refl none))
 
 -- the four numbers
 numbers : (threeAlone 1 (daysWith 1) ≡ 1) × (threeAlone 2 (daysWith 2) ≡ 0) × (threeOrFive 1 (daysWith 1) ≡ 1) × (threeOrFive 2 (daysWith 2) ≡ 1)
-unfolding threeAlone threeOrFive daysWith dayOf tablesWith ownTrade sanctions sanctionOn offenceDays offenceOn offence reachesOn timesOf howMany memberOn familyOf countsFor counted planOf planFor groupOf hasAccount contractOf accountOf sanction rung family enough exempt known byThree first some every pick
+unfolding threeAlone threeOrFive daysWith dayOf tablesWith ownTrade sanctions sanctionOn offenceDays offenceOn totalOver carried blank bookOf headOf le bytes offence reachesOn timesOf howMany memberOn familyOf countsFor counted planOf planFor groupOf hasAccount contractOf accountOf sanction rung family enough exempt known byThree first some every pick
 numbers = (refl, refl, refl, refl)
 
 pub why-three-or-five : WhyThreeOrFive

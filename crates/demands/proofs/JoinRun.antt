@@ -1,49 +1,72 @@
--- A run and the same run with two groups joined go on side by side: what the one accepts, the other does. Assumes nothing.
+-- A run and the same run with two groups joined go on side by side: each step gets the same number in both, and leaves the days,
+-- the books and the day last opened alike but for the two groups. Assumes nothing.
 use mathlib.Core.Path.{_≡_, refl, sym, ap, ap₂, _∙_, subst}
-use mathlib.Core.Bool.{Bool, true, not, _&&_}
-use mathlib.Core.List.{List, [], _∷_, map}
-use Prim.Native.Nat.{ℕ, _+_, _≤_, _<_}
+use mathlib.Core.Bool.{Bool, true, false, not}
+use mathlib.Core.List.{List, [], _∷_}
+use Prim.Native.Nat.{ℕ, _*_, _≤_}
 use native.Mathlib.Omega.{arith}
-use borrow.Author.Tests.{eq-eqb, le-ltb, not-false}
-use lib.Dec.{leb, eqb, lit<}
+use borrow.Author.Tests.{eqb-true, eqb-false, eq-eqb, ne-eqb, le-ltb}
+use lib.Dec.{leb, ltb, eqb, lit<}
 use lib.ListN.{length}
 use Rattle.wire.specs.Choice.{pick, orElse}
 use Rattle.wire.specs.Buffers.{put}
-use Rattle.wire.proofs.ChoiceLaws.{pick-yes, pick-no, pick-zero, or-else, or-none}
+use Rattle.wire.proofs.ChoiceLaws.{pick-yes, pick-no, pick-zero, or-none}
 use Rattle.wire.proofs.BufferLaws.{length-put}
-use Rattle.calendar.specs.Dates.{year}
 use Rattle.book.specs.Fresh.{freshFault, freshBook}
 use Rattle.book.specs.Ask.{inRange, askFault}
-use Rattle.book.specs.Layout.{rulebookOf, lastDate, totalAt}
 use Rattle.book.specs.Sound.{sound}
-use Rattle.book.proofs.BookLaws.{sound-facts}
 use Rattle.daylog.specs.declared.header.Header.{Header}
 use Rattle.daylog.specs.declared.record.Record.{Record}
 use Rattle.daylog.specs.Header.{headerOf, logFault}
 use Rattle.daylog.specs.Records.{recordOf}
 use Rattle.daylog.specs.Tables.{Tables, tablesOf}
 use Rattle.desk.specs.Open.{bookFault, roomFault, handedFault}
-use Rattle.desk.specs.Offences.{groupAt, kindAt, familyAt}
-use Rattle.desk.specs.Findings.{findings, foundAt, bookAfter}
+use Rattle.desk.specs.Findings.{findings, bookAfter, foundCount}
 use Rattle.desk.specs.End.{rowFault}
-use Rattle.demands.specs.Counts.{howMany, timesOn, offence}
-use Rattle.demands.specs.Days.{Ended, lastOf, offenceOn, offenceDays}
-use Rattle.demands.specs.Calls.{Call, makeBook, openDay, takeRecord, endDay, abandonDay, askBook}
-use Rattle.demands.specs.Paper.{Course, idle, during, Paper, dayIn, takeNumber, endRefusal, resting, at, openRuled, takeRuled, endRuled, rule}
+use Rattle.desk.proofs.OpenLaws.{room-there}
+use Rattle.demands.specs.Counts.{timesOn}
+use Rattle.demands.specs.Days.{endedDay, blank}
+use Rattle.demands.specs.Calls.{Step, makeBook, openDay, takeRecord, endDay, abandonDay, askBook, lendFindings}
+use Rattle.demands.specs.Paper.{Course, idle, during, Paper, dayIn, takeNumber, endRefusal, at, resting, openRuled, takeRuled, endRuled, rule, rules, numbersOn, paperAfter}
+use Rattle.demands.specs.Lent.{latest, lastOpened}
 use Rattle.demands.specs.Demand2.{History, recorded, history}
-use Rattle.demands.specs.Join.{joinLog, Joined}
-use Rattle.demands.specs.Demand3.{joinCall, DaysJoined, none, more}
-use Rattle.demands.proofs.CallLaws.{paper, handed-parts}
+use Rattle.demands.specs.Join.{joinLog}
+use Rattle.demands.specs.Demand3.{Two, StepJoined, makes, opens, takes, ends, abandons, asks, lends, StepsJoined, none, more, Roomy, none as no-lent, more as more-lent}
+use Rattle.demands.proofs.CallLaws.{handed-parts}
 use Rattle.demands.proofs.ListedLaws.{findings-list}
-use Rattle.demands.proofs.NumberLaws.{refusal}
-use Rattle.demands.proofs.LogLaws.{found-fits, end-plain}
-use Rattle.demands.proofs.TotalLaws.{ready, Kept, kept-day, last-is, total-was, book-rulebook, dayOf}
-use Rattle.demands.proofs.Demand2.{Holds, holds-fresh}
+use Rattle.demands.proofs.NumberLaws.{refusal, number-is}
+use Rattle.demands.proofs.LogLaws.{found-fits}
+use Rattle.demands.proofs.TotalLaws.{Kept, kept-none, blank-sound}
+use Rattle.demands.proofs.Demand2.{Holds, holds-fresh, recorded-end, kept-fresh}
 use Rattle.demands.proofs.JoinTables.{joined-log}
-use Rattle.demands.proofs.JoinCounts.{fault-joined, offence-other}
-use Rattle.demands.proofs.JoinFound.{found-other, found-none}
+use Rattle.demands.proofs.JoinCounts.{fault-joined}
+use Rattle.demands.proofs.JoinYears.{Years, years-fresh, lengths-same, sound-same, book-same, years-day}
 
--- ---- what an accepted call leaves
+-- ---- what a step leaves on the paper
+-- a refused one leaves everything
+module _ (p : Paper) (h : History) where
+  pub record Left (course : Course) (c : Step) : Type 0 where
+    pub paper : rule p course c .after ≡ p
+    pub days : recorded p course c h ≡ h
+
+  pub refused-leaves : (course : Course) (c : Step) → (refusal p course c ≡ 0 → ⊥) → Left course c
+  unfolding refusal rule recorded openRuled takeRuled endRuled
+  refused-leaves course (makeBook rulebook) f =
+      let e = ne-eqb (freshFault (length (p .book)) rulebook) 0 f in
+      record { paper = rw (kept-fresh (p .book) rulebook e); days = sym (pick-no _ _ _ _ e refl) }
+  refused-leaves course (askBook group kind family) f = record { paper = refl; days = refl }
+  refused-leaves course (lendFindings out) f = absurd (f refl)
+  refused-leaves idle (openDay log) f = record { paper = sym (pick-no _ _ _ _ (ne-eqb _ 0 f) refl); days = refl }
+  refused-leaves idle (takeRecord row) f = record { paper = refl; days = refl }
+  refused-leaves idle (endDay row) f = record { paper = refl; days = refl }
+  refused-leaves idle abandonDay f = record { paper = refl; days = refl }
+  refused-leaves (during log rs) (openDay other) f = record { paper = refl; days = refl }
+  refused-leaves (during log rs) (takeRecord row) f = record { paper = sym (pick-no _ _ _ _ (ne-eqb _ 0 f) refl); days = refl }
+  refused-leaves (during log rs) (endDay row) f =
+      record { paper = sym (pick-no _ _ _ _ (ne-eqb _ 0 f) refl); days = sym (pick-no _ _ _ _ (ne-eqb _ 0 f) refl) }
+  refused-leaves (during log rs) abandonDay f = absurd (f refl)
+
+-- an accepted one
 after-open : (p : Paper) (log : List ℕ) → handedFault log (p .book) (p .room) ≡ 0 → at p (during log []) ≡ rule p idle (openDay log) .after
 unfolding rule openRuled
 after-open p log e = pick-yes _ _ _ _ (eq-eqb _ 0 e) refl
@@ -59,239 +82,267 @@ after-end : (p : Paper) (log : List ℕ) (rs : List Record) (row : List ℕ) →
 unfolding rule endRuled
 after-end p log rs row e = pick-yes _ _ _ _ (eq-eqb _ 0 e) refl
 
-recorded-end : (p : Paper) (log : List ℕ) (rs : List Record) (row : List ℕ) (h : History) → endRefusal log rs row (p .book) (length (p .out)) ≡ 0
-    → _≡_ {A = History} (record { rulebook = h .rulebook; days = dayOf log rs ∷ h .days }) (recorded p (during log rs) (endDay row) h)
-unfolding recorded
-recorded-end p log rs row h e = pick-yes _ _ _ _ (eq-eqb _ 0 e) refl
-
 made-history : (rulebook len : ℕ) (h : History) → freshFault len rulebook ≡ 0
-    → _≡_ {A = History} (record { rulebook = rulebook; days = [] }) (pick (eqb (freshFault len rulebook) 0) (record { rulebook = rulebook; days = [] }) h)
+    → _≡_ {A = History} (record { from = blank rulebook; days = [] }) (pick (eqb (freshFault len rulebook) 0) (record { from = blank rulebook; days = [] }) h)
 made-history rulebook len h e = pick-yes _ _ _ _ (eq-eqb _ 0 e) refl
 
--- every call of a list is accepted
-unfoldable pub AcceptedBy : Paper → List Call → Type 0
+-- ---- room: a step leaves the counts' length, and full room for findings where what it lends has it
+room-of : (t : Bool) (q p : Paper) → q .room ≡ p .room → pick t q p .room ≡ p .room
+unfolding pick
+room-of true q p e = e
+room-of false q p e = refl
+
+same-room : (p : Paper) (course : Course) (c : Step) → rule p course c .after .room ≡ p .room
+unfolding rule openRuled takeRuled endRuled
+same-room p course (makeBook rulebook) = refl
+same-room p course (askBook group kind family) = refl
+same-room p course (lendFindings out) = refl
+same-room p idle (openDay log) = room-of _ _ p refl
+same-room p idle (takeRecord row) = refl
+same-room p idle (endDay row) = refl
+same-room p idle abandonDay = refl
+same-room p (during log rs) (openDay other) = refl
+same-room p (during log rs) (takeRecord row) = room-of _ _ p refl
+same-room p (during log rs) (endDay row) = room-of _ _ p refl
+same-room p (during log rs) abandonDay = refl
+
+out-of : (t : Bool) (q p : Paper) → 49152 ≤ length (q .out) → 49152 ≤ length (p .out) → 49152 ≤ length (pick t q p .out)
+unfolding pick
+out-of true q p h l = h
+out-of false q p h l = l
+
+written-room : (t : Tables) (rs : List Record) (date : ℕ) (book out : List ℕ) → 49152 ≤ length out
+    → 49152 ≤ length (put out 0 (findings t date book (timesOn t rs)))
+written-room t rs date book out h =
+    let long = findings-list t rs date book .long in
+    omega (arith, length-put out 0 (findings t date book (timesOn t rs)) (omega (arith, found-fits t (timesOn t rs) (length out) h)))
+
+full-out : (p : Paper) (course : Course) (c : Step) → 49152 ≤ length (p .out) → ((out : List ℕ) → c ≡ lendFindings out → 49152 ≤ length out)
+    → 49152 ≤ length (rule p course c .after .out)
+unfolding rule openRuled takeRuled endRuled
+full-out p course (makeBook rulebook) h l = h
+full-out p course (askBook group kind family) h l = h
+full-out p course (lendFindings out) h l = l out refl
+full-out p idle (openDay log) h l = out-of _ _ p h h
+full-out p idle (takeRecord row) h l = h
+full-out p idle (endDay row) h l = h
+full-out p idle abandonDay h l = h
+full-out p (during log rs) (openDay other) h l = h
+full-out p (during log rs) (takeRecord row) h l = out-of _ _ p h h
+full-out p (during log rs) (endDay row) h l = out-of _ _ p (written-room (tablesOf log) rs (headerOf log .date) (p .book) (p .out) h) h
+full-out p (during log rs) abandonDay h l = h
+
+-- every step of a list is accepted
+unfoldable pub AcceptedBy : Paper → List Step → Type 0
 AcceptedBy p [] = Unit {0}
 AcceptedBy p (c ∷ cs) = (refusal p (p .course) c ≡ 0) × AcceptedBy (rule p (p .course) c .after) cs
 
--- ---- the days of the two runs
-pub last-same : {a b rulebook : ℕ} {days days′ : List Ended} → DaysJoined a b rulebook days days′ → lastOf days′ ≡ lastOf days
-unfolding lastOf
-last-same none = refl
-last-same (more j rest) = j .date
+-- the two ways in which a run is fair, on the papers
+pub data Fits (p p′ : Paper) (cs : List Step) : Type 0 where
+  accepted : AcceptedBy p cs → 12288 ≤ p′ .room → Fits p p′ cs
+  roomy : 49152 ≤ length (p .out) → Roomy cs → p′ .room ≡ p .room → Fits p p′ cs
 
--- other groups' offence days are the same
-module _ (a b rulebook y l : ℕ) (some-a : 1 ≤ a) (apart : a ≡ b → ⊥) (not-a : groupAt l ≡ a → ⊥) (not-b : groupAt l ≡ b → ⊥) where
-  day-other : (d d′ : Ended) → d′ .records ≡ d .records → Joined a b (d .tables) (d′ .tables) → offenceOn l d′ ≡ offenceOn l d
-  unfolding offenceOn
-  day-other d d′ records tables =
-      ap (λ rs. offence (d′ .tables) rs (groupAt l) (kindAt l) (familyAt l)) records
-      ∙ offence-other a b (d .tables) (d′ .tables) tables some-a apart (d .records) (groupAt l) (kindAt l) (familyAt l) not-a not-b
+-- and of one step
+data Fit (p p′ : Paper) (c : Step) : Type 0 where
+  accepted : refusal p (p .course) c ≡ 0 → 12288 ≤ p′ .room → Fit p p′ c
+  roomy : 49152 ≤ length (p .out) → p′ .room ≡ p .room → Fit p p′ c
 
-  pub days-other : {days days′ : List Ended} → DaysJoined a b rulebook days days′ → offenceDays y l days′ ≡ offenceDays y l days
-  unfolding offenceDays howMany
-  days-other none = refl
-  days-other (more {d} {d′} j rest) =
-      ap₂ (λ (x n : ℕ). x + n)
-      (ap₂ (λ (m : ℕ) (o : Bool). pick (eqb (year m) y && o) 1 0) (j .date) (day-other d d′ (j .records) (j .tables))) (days-other rest)
+fit-first : {p p′ : Paper} {c : Step} {cs : List Step} → Fits p p′ (c ∷ cs) → Fit p p′ c
+unfolding AcceptedBy
+fit-first (accepted y n) = accepted (y .0) n
+fit-first (roomy h r n) = roomy h n
 
-module _ (a b rulebook : ℕ) (days days′ : List Ended) (book book′ : List ℕ) (k : Kept rulebook days book) (k′ : Kept rulebook days′ book′)
-    (j : DaysJoined a b rulebook days days′) where
-  dates-same : lastDate book′ ≡ lastDate book
-  dates-same = last-is rulebook days′ book′ k′ ∙ last-same j ∙ sym (last-is rulebook days book k)
-
-  -- a book that lets a day in does so in both
-  book-allows : (h : Header) → bookFault h book ≡ 0 → bookFault h book′ ≡ 0
-  unfolding bookFault
-  book-allows h e =
-      let f : Bool → ℕ → ℕ → ℕ = λ s r d. pick (not s) 17 (pick (not (eqb r (h .rulebook))) 18 (pick (leb (h .date) d) 9 0)) in
-      ap (λ (s : Bool). f s (rulebookOf book′) (lastDate book′)) (k′ .good ∙ sym (k .good))
-      ∙ ap₂ (f (sound book)) (book-rulebook rulebook days′ book′ k′ ∙ sym (book-rulebook rulebook days book k)) dates-same ∙ e
-
-  pub total-same : (l : ℕ) → l < 6144 → 1 ≤ a → (a ≡ b → ⊥) → (groupAt l ≡ a → ⊥) → (groupAt l ≡ b → ⊥) → totalAt book′ l ≡ totalAt book l
-  total-same l h some-a apart not-a not-b =
-      total-was rulebook days′ book′ k′ l h ∙ ap (λ (n : ℕ). offenceDays (year n) l days′) (last-same j)
-      ∙ days-other a b rulebook (year (lastOf days)) l some-a apart not-a not-b j ∙ sym (total-was rulebook days book k l h)
-
--- ---- opening's refusals put together
-handed-whole : (log book : List ℕ) (room : ℕ) → logFault log ≡ 0 → bookFault (headerOf log) book ≡ 0 → 12288 ≤ room → handedFault log book room ≡ 0
-unfolding handedFault roomFault
-handed-whole log book room e f h =
-    or-else (logFault log) _ e ∙ or-else (bookFault (headerOf log) book) _ f ∙ sym (pick-no _ _ _ _ (le-ltb room 12288 h) refl)
-
--- ending's refusals taken apart
-end-parts : (log : List ℕ) (rs : List Record) (row book : List ℕ) (room : ℕ) → endRefusal log rs row book room ≡ 0
-    → (eqb (length row) 20 ≡ true) × (rowFault (dayIn log rs) row ≡ 0) × (bookFault (headerOf log) book ≡ 0)
-unfolding endRefusal
-end-parts log rs row book room e =
-    let q = pick-zero _ 1 _ (lit< tt) e in
-    let r = or-none (rowFault (dayIn log rs) row) _ (q .1) in
-    (not-false _ (q .0), r .0, or-none (bookFault (headerOf log) book) _ (r .1) .0)
-
-row-any : (log log′ : List ℕ) (rs : List Record) (row : List ℕ) → rowFault (dayIn log′ rs) row ≡ rowFault (dayIn log rs) row
-unfolding rowFault
-row-any log log′ rs row = refl
-
-out-length : (t : Tables) (rs : List Record) (date : ℕ) (book out : List ℕ) → 49152 ≤ length out
-    → length (put out 0 (findings t date book (timesOn t rs))) ≡ length out
-out-length t rs date book out h =
-    let long = findings-list t rs date book .long in
-    length-put out 0 (findings t date book (timesOn t rs)) (omega (arith, found-fits t (timesOn t rs) (length out) h))
+fit-rest : {p p′ : Paper} {c : Step} {cs : List Step} (c′ : Step) → Fits p p′ (c ∷ cs) → Fits (rule p (p .course) c .after) (rule p′ (p′ .course) c′ .after) cs
+unfolding AcceptedBy
+fit-rest {p} {p′} {c} c′ (accepted y n) = accepted (y .1) (omega (arith, same-room p′ (p′ .course) c′))
+fit-rest {p} {p′} {c} c′ (roomy h (more-lent l r) n) =
+    roomy (full-out p (p .course) c h l) r (same-room p′ (p′ .course) c′ ∙ n ∙ sym (same-room p (p .course) c))
 
 -- ---- side by side
 pub data Twin (a b : ℕ) : Course → Course → Type 0 where
   both-idle : Twin a b idle idle
   both-open : {log : List ℕ} {rs : List Record} → logFault log ≡ 0 → Twin a b (during log rs) (during (joinLog a b log) rs)
 
+twin-latest : {a b : ℕ} {c c′ l l′ : Course} → Twin a b c c′ → Twin a b l l′ → Twin a b (latest c l) (latest c′ l′)
+twin-latest both-idle t = t
+twin-latest (both-open e) t = both-open e
+
 pub record Beside (a b : ℕ) (p p′ : Paper) (h h′ : History) : Type 0 where
   pub course : Twin a b (p .course) (p′ .course)
-  pub kept : Holds h (p .book)
-  pub kept′ : Holds h′ (p′ .book)
-  pub same : h′ .rulebook ≡ h .rulebook
-  pub days : DaysJoined a b (h .rulebook) (h .days) (h′ .days)
-  pub room : 12288 ≤ p′ .room
-  pub out : 49152 ≤ length (p′ .out)
-
--- accepted again, and side by side after it
-pub record Again (a b : ℕ) (p p′ : Paper) (h h′ : History) (c : Call) : Type 0 where
-  pub number : refusal p′ (p′ .course) (joinCall a b c) ≡ 0
-  pub after : Beside a b (rule p (p .course) c .after) (rule p′ (p′ .course) (joinCall a b c) .after)
-      (recorded p (p .course) c h) (recorded p′ (p′ .course) (joinCall a b c) h′)
+  pub years : Years a b h h′ (p .book) (p′ .book)
 
 move : {a b : ℕ} {p q p′ q′ : Paper} {h i h′ i′ : History} → p ≡ q → p′ ≡ q′ → h ≡ i → h′ ≡ i′ → Beside a b p p′ h h′ → Beside a b q q′ i i′
 move {a} {b} {p} {q} {p′} {q′} {h} {i} {h′} {i′} e e′ f f′ s =
     subst (λ (x : Paper). Beside a b x q′ i i′) e
     (subst (λ (x : Paper). Beside a b p x i i′) e′ (subst (λ (x : History). Beside a b p p′ x i′) f (subst (λ (x : History). Beside a b p p′ h x) f′ s)))
 
-module _ (a b : ℕ) (some-a : 1 ≤ a) (some-b : 1 ≤ b) (most-b : b ≤ 128) (apart : a ≡ b → ⊥) where
-  -- a day opened
-  open-again : (book out book′ out′ : List ℕ) (room room′ : ℕ) (h h′ : History) (log : List ℕ)
-      → Beside a b (paper idle book out room) (paper idle book′ out′ room′) h h′ → handedFault log book room ≡ 0
-      → Again a b (paper idle book out room) (paper idle book′ out′ room′) h h′ (openDay log)
-  unfolding refusal recorded
-  open-again book out book′ out′ room room′ h h′ log s e =
-      let p = paper idle book out room in
-      let p′ = paper idle book′ out′ room′ in
-      let f = handed-parts log book room e in
-      let j = joined-log a b log some-a some-b most-b (f .0) in
-      let k′ : Kept (h .rulebook) (h′ .days) book′ = rw (← s .same) (s .kept′) in
-      let allowed : bookFault (headerOf (joinLog a b log)) book′ ≡ 0 =
-      ap (λ (x : Header). bookFault x book′) (j .head) ∙ book-allows a b (h .rulebook) (h .days) (h′ .days) book book′ (s .kept) k′ (s .days) (headerOf log) (f .1) in
-      let z : handedFault (joinLog a b log) book′ room′ ≡ 0 = handed-whole (joinLog a b log) book′ room′ (j .sound) allowed (s .room) in record {
-        number = z;
-        after = move (after-open p log e) (after-open p′ (joinLog a b log) z) refl refl
-            (record { course = both-open (f .0); kept = s .kept; kept′ = s .kept′; same = s .same; days = s .days; room = s .room; out = s .out });
-      }
+abbrev paper : Course → (book out : List ℕ) → ℕ → Paper
+paper course book out room = record { course = course; book = book; out = out; room = room }
 
-  -- a record taken
+module _ (a b : ℕ) (two : Two a b) where
+  -- ---- the numbers
+  -- opening: the tables' fault is the same, so is the book's, and there is room in both or in neither
+  pub open-same : (log book book′ : List ℕ) (room room′ : ℕ) → ((x : Header) → bookFault x book′ ≡ bookFault x book) → roomFault room′ ≡ roomFault room
+      → handedFault (joinLog a b log) book′ room′ ≡ handedFault log book room
+  unfolding handedFault
+  open-same log book book′ room room′ same n =
+      let j = joined-log a b log (two .first-a) (two .last-a) (two .first-b) (two .last-b) in
+      ap₂ orElse (j .fault) (ap₂ orElse (ap (λ (x : Header). bookFault x book′) (j .head) ∙ same (headerOf log)) n)
+
+  room-same : {p p′ : Paper} {log : List ℕ} → Fit p p′ (openDay log) → p .course ≡ idle → roomFault (p′ .room) ≡ roomFault (p .room)
+  unfolding refusal roomFault
+  room-same {p} {p′} {log} (accepted e n) i =
+      let z : handedFault log (p .book) (p .room) ≡ 0 = subst (λ (x : Course). refusal p x (openDay log) ≡ 0) i e in
+      sym (pick-no _ _ _ _ (le-ltb (p′ .room) 12288 n) refl) ∙ pick-no _ _ _ _ (le-ltb (p .room) 12288 (room-there log (p .book) (p .room) z)) refl
+  room-same (roomy h n) i = ap (λ (x : ℕ). pick (ltb x 12288) 16 0) n
+
+  -- taking: by the tables alone
   pub take-same : (log : List ℕ) (rs : List Record) (row : List ℕ) → logFault log ≡ 0 → takeNumber (joinLog a b log) rs row ≡ takeNumber log rs row
   unfolding takeNumber
   take-same log rs row e =
-      let j = joined-log a b log some-a some-b most-b e in
+      let j = joined-log a b log (two .first-a) (two .last-a) (two .first-b) (two .last-b) in
       ap (λ (n : ℕ). pick (not (eqb (length row) 20)) 1 (orElse n (pick (leb 1000000 (length rs)) 14 0)))
-      (fault-joined a b (tablesOf log) (tablesOf (joinLog a b log)) (j .tables) some-a apart (recordOf row))
+      (fault-joined a b (tablesOf log) (tablesOf (joinLog a b log)) (j .tables e) (two .first-a) (two .differ) (recordOf row))
 
-  take-again : (log : List ℕ) (rs : List Record) (book out book′ out′ : List ℕ) (room room′ : ℕ) (h h′ : History) (row : List ℕ) → logFault log ≡ 0
-      → Beside a b (paper (during log rs) book out room) (paper (during (joinLog a b log) rs) book′ out′ room′) h h′ → takeNumber log rs row ≡ 0
-      → Again a b (paper (during log rs) book out room) (paper (during (joinLog a b log) rs) book′ out′ room′) h h′ (takeRecord row)
-  unfolding refusal recorded
-  take-again log rs book out book′ out′ room room′ h h′ row g s e =
-      let p = paper (during log rs) book out room in
-      let p′ = paper (during (joinLog a b log) rs) book′ out′ room′ in
-      let z : takeNumber (joinLog a b log) rs row ≡ 0 = take-same log rs row g ∙ e in record {
-        number = z;
-        after = move (after-take p log rs row e) (after-take p′ (joinLog a b log) rs row z) refl refl
-            (record { course = both-open g; kept = s .kept; kept′ = s .kept′; same = s .same; days = s .days; room = s .room; out = s .out });
-      }
+  -- ending: the record's fault and the book's are the same, and both have room for the findings
+  abbrev short : (log : List ℕ) (rs : List Record) → ℕ → ℕ
+  short log rs room = pick (ltb room (8 * foundCount (tablesOf log) (timesOn (tablesOf log) rs))) 20 0
 
-  -- a day ended
-  end-again : (log : List ℕ) (rs : List Record) (book out book′ out′ : List ℕ) (room room′ : ℕ) (h h′ : History) (row : List ℕ) → logFault log ≡ 0
-      → Beside a b (paper (during log rs) book out room) (paper (during (joinLog a b log) rs) book′ out′ room′) h h′ → endRefusal log rs row book (length out) ≡ 0
-      → Again a b (paper (during log rs) book out room) (paper (during (joinLog a b log) rs) book′ out′ room′) h h′ (endDay row)
+  not-short : (log : List ℕ) (rs : List Record) (room : ℕ) → 49152 ≤ room → short log rs room ≡ 0
+  not-short log rs room h = sym (pick-no _ _ _ _ (le-ltb room _ (found-fits (tablesOf log) (timesOn (tablesOf log) rs) room h)) refl)
+
+  end-same : (log : List ℕ) (rs : List Record) (row book book′ : List ℕ) (room room′ : ℕ) → ((x : Header) → bookFault x book′ ≡ bookFault x book)
+      → short log rs room ≡ 0 → 49152 ≤ room′ → endRefusal (joinLog a b log) rs row book′ room′ ≡ endRefusal log rs row book room
+  unfolding endRefusal rowFault
+  end-same log rs row book book′ room room′ same fits full =
+      let j = joined-log a b log (two .first-a) (two .last-a) (two .first-b) (two .last-b) in
+      ap (λ (n : ℕ). pick (not (eqb (length row) 20)) 1 (orElse (rowFault (dayIn log rs) row) n))
+      (ap₂ orElse (ap (λ (x : Header). bookFault x book′) (j .head) ∙ same (headerOf log)) (not-short (joinLog a b log) rs room′ full ∙ sym fits))
+
+  end-fits : (log : List ℕ) (rs : List Record) (row book : List ℕ) (room : ℕ) → endRefusal log rs row book room ≡ 0 → short log rs room ≡ 0
+  unfolding endRefusal
+  end-fits log rs row book room e =
+      let q = or-none (rowFault (dayIn log rs) row) _ (pick-zero _ 1 _ (lit< tt) e .1) in
+      or-none (bookFault (headerOf log) book) _ (q .1) .1
+
+  end-room : {p p′ : Paper} (log : List ℕ) (rs : List Record) (row : List ℕ) → Fit p p′ (endDay row) → p .course ≡ during log rs → short log rs (length (p .out)) ≡ 0
   unfolding refusal
-  end-again log rs book out book′ out′ room room′ h h′ row g s e =
-      let p = paper (during log rs) book out room in
-      let p′ = paper (during (joinLog a b log) rs) book′ out′ room′ in
-      let j = joined-log a b log some-a some-b most-b g in
-      let f = end-parts log rs row book (length out) e in
-      let k′ : Kept (h .rulebook) (h′ .days) book′ = rw (← s .same) (s .kept′) in
-      let allowed : bookFault (headerOf (joinLog a b log)) book′ ≡ 0 =
-      ap (λ (x : Header). bookFault x book′) (j .head) ∙ book-allows a b (h .rulebook) (h .days) (h′ .days) book book′ (s .kept) k′ (s .days) (headerOf log) (f .2) in
-      let z : endRefusal (joinLog a b log) rs row book′ (length out′) ≡ 0 = end-plain (joinLog a b log) rs row book′ (length out′) (f .0) allowed (s .out) ∙ row-any log (joinLog a b log) rs row ∙ f .1 in record {
-        number = z;
-        after = move (after-end p log rs row e) (after-end p′ (joinLog a b log) rs row z) (recorded-end p log rs row h e) (recorded-end p′ (joinLog a b log) rs row h′ z)
-            (record {
-              course = both-idle;
-              kept = kept-day (h .rulebook) (h .days) log book rs (s .kept) (ready log book g (f .2));
-              kept′ = kept-day (h′ .rulebook) (h′ .days) (joinLog a b log) book′ rs (s .kept′) (ready (joinLog a b log) book′ (j .sound) allowed);
-              same = s .same;
-              days = more (record {
-                date = ap (λ (x : Header). x .date) (j .head);
-                records = refl;
-                tables = j .tables;
-                others = λ l less not-a not-b. ap₂ (λ (d : ℕ) (x : List ℕ). foundAt (tablesOf (joinLog a b log)) d x (timesOn (tablesOf (joinLog a b log)) rs) l) (ap (λ (x : Header). x .date) (j .head)) (sym (k′ .is))
-                    ∙ found-other a b (tablesOf log) (tablesOf (joinLog a b log)) (j .tables) some-a apart rs l not-a not-b (headerOf log .date) book book′
-                    (dates-same a b (h .rulebook) (h .days) (h′ .days) book book′ (s .kept) k′ (s .days)) (total-same a b (h .rulebook) (h .days) (h′ .days) book book′ (s .kept) k′ (s .days) l less some-a apart not-a not-b)
-                    ∙ ap (λ (x : List ℕ). foundAt (tablesOf log) (headerOf log .date) x (timesOn (tablesOf log) rs) l) (s .kept .is);
-                gone = λ l less is-a. found-none a b (tablesOf log) (tablesOf (joinLog a b log)) (j .tables) some-a apart rs l is-a _ _;
-              }) (s .days);
-              room = s .room;
-              out = rw (out-length (tablesOf (joinLog a b log)) rs (headerOf (joinLog a b log) .date) book′ out′ (s .out)) (s .out);
-            });
-      }
+  end-room {p} log rs row (accepted e n) i = end-fits log rs row (p .book) (length (p .out)) (subst (λ (x : Course). refusal p x (endDay row) ≡ 0) i e)
+  end-room {p} log rs row (roomy h n) i = not-short log rs (length (p .out)) h
 
-  -- a fresh book
-  fresh-again : (course course′ : Course) (book out book′ out′ : List ℕ) (room room′ : ℕ) (h h′ : History) (rulebook : ℕ)
-      → Beside a b (paper course book out room) (paper course′ book′ out′ room′) h h′ → freshFault (length book) rulebook ≡ 0
-      → Again a b (paper course book out room) (paper course′ book′ out′ room′) h h′ (makeBook rulebook)
-  unfolding refusal rule recorded
-  fresh-again course course′ book out book′ out′ room room′ h h′ rulebook s e =
-      let long : length book′ ≡ length book = sound-facts book′ (s .kept′ .good) .long ∙ sym (sound-facts book (s .kept .good) .long) in
-      let z : freshFault (length book′) rulebook ≡ 0 = ap (λ (n : ℕ). freshFault n rulebook) long ∙ e in
-      let q = made-history rulebook (length book) h e in
-      let q′ = made-history rulebook (length book′) h′ z in record {
-        number = z;
-        after = move refl refl q q′ (record {
-          course = s .course;
-          kept = subst (λ (x : History). Holds x (freshBook book rulebook)) (sym q) (holds-fresh h book rulebook (s .kept));
-          kept′ = subst (λ (x : History). Holds x (freshBook book′ rulebook)) (sym q′) (holds-fresh h′ book′ rulebook (s .kept′));
-          same = refl;
-          days = none;
-          room = s .room;
-          out = s .out;
-        });
-      }
+  end-allows : (log : List ℕ) (rs : List Record) (row book : List ℕ) (room : ℕ) → endRefusal log rs row book room ≡ 0 → bookFault (headerOf log) book ≡ 0
+  unfolding endRefusal
+  end-allows log rs row book room e =
+      let q = or-none (rowFault (dayIn log rs) row) _ (pick-zero _ 1 _ (lit< tt) e .1) in
+      or-none (bookFault (headerOf log) book) _ (q .1) .0
 
-  ask-again : (book book′ : List ℕ) (group kind family : ℕ) → sound book ≡ true → sound book′ ≡ true → askFault book group kind family ≡ 0
-      → askFault book′ group kind family ≡ 0
+  ask-same : (book book′ : List ℕ) (group kind family : ℕ) → sound book′ ≡ sound book → askFault book′ group kind family ≡ askFault book group kind family
   unfolding askFault
-  ask-again book book′ group kind family good good′ e = ap (λ (t : Bool). pick (not t) 17 (pick (not (inRange group kind family)) 21 0)) (good′ ∙ sym good) ∙ e
+  ask-same book book′ group kind family e = ap (λ (t : Bool). pick (not t) 17 (pick (not (inRange group kind family)) 21 0)) e
 
-  -- any call
-  again : (course course′ : Course) (book out book′ out′ : List ℕ) (room room′ : ℕ) (h h′ : History) → Twin a b course course′
-      → Beside a b (paper course book out room) (paper course′ book′ out′ room′) h h′ → (c : Call) → refusal (paper course book out room) course c ≡ 0
-      → Again a b (paper course book out room) (paper course′ book′ out′ room′) h h′ c
-  unfolding refusal rule recorded
-  again course course′ book out book′ out′ room room′ h h′ t s (makeBook rulebook) e = fresh-again course course′ book out book′ out′ room room′ h h′ rulebook s e
-  again course course′ book out book′ out′ room room′ h h′ t s (askBook group kind family) e =
-      record { number = ask-again book book′ group kind family (s .kept .good) (s .kept′ .good) e; after = s }
-  again idle idle book out book′ out′ room room′ h h′ both-idle s (openDay log) e = open-again book out book′ out′ room room′ h h′ log s e
-  again idle idle book out book′ out′ room room′ h h′ both-idle s (takeRecord row) e = absurd (omega arith)
-  again idle idle book out book′ out′ room room′ h h′ both-idle s (endDay row) e = absurd (omega arith)
-  again idle idle book out book′ out′ room room′ h h′ both-idle s abandonDay e = absurd (omega arith)
-  again (during log rs) _ book out book′ out′ room room′ h h′ (both-open g) s (openDay other) e = absurd (omega arith)
-  again (during log rs) _ book out book′ out′ room room′ h h′ (both-open g) s (takeRecord row) e = take-again log rs book out book′ out′ room room′ h h′ row g s e
-  again (during log rs) _ book out book′ out′ room room′ h h′ (both-open g) s (endDay row) e = end-again log rs book out book′ out′ room room′ h h′ row g s e
-  again (during log rs) _ book out book′ out′ room room′ h h′ (both-open g) s abandonDay e =
-      record { number = refl; after = record { course = both-idle; kept = s .kept; kept′ = s .kept′; same = s .same; days = s .days; room = s .room; out = s .out } }
+  module _ (book out book′ out′ : List ℕ) (room room′ : ℕ) (h h′ : History) (s : Years a b h h′ book book′) where
+    same-number : (course course′ : Course) (c c′ : Step) → Twin a b course course′ → StepJoined a b c c′
+        → Fit (paper course book out room) (paper course′ book′ out′ room′) c → 49152 ≤ length out′
+        → refusal (paper course′ book′ out′ room′) course′ c′ ≡ refusal (paper course book out room) course c
+    unfolding refusal
+    same-number course course′ _ _ t (makes {rulebook}) f l = ap (λ (n : ℕ). freshFault n rulebook) (lengths-same a b two h h′ book book′ s)
+    same-number course course′ _ _ t (asks {group} {kind} {family}) f l = ask-same book book′ group kind family (sound-same a b two h h′ book book′ s)
+    same-number course course′ _ _ t lends f l = refl
+    same-number _ _ _ _ both-idle (opens {log}) f l = open-same log book book′ room room′ (book-same a b two h h′ book book′ s) (room-same f refl)
+    same-number _ _ _ _ both-idle takes f l = refl
+    same-number _ _ _ _ both-idle ends f l = refl
+    same-number _ _ _ _ both-idle abandons f l = refl
+    same-number _ _ _ _ (both-open e) opens f l = refl
+    same-number _ _ _ _ (both-open {log} {rs} e) (takes {row}) f l = take-same log rs row e
+    same-number _ _ _ _ (both-open {log} {rs} e) (ends {row}) f l =
+        end-same log rs row book book′ (length out) (length out′) (book-same a b two h h′ book book′ s) (end-room log rs row f refl) l
+    same-number _ _ _ _ (both-open e) abandons f l = refl
 
-  -- any list of calls
-  pub runs-again : (p p′ : Paper) (h h′ : History) (cs : List Call) → Beside a b p p′ h h′ → AcceptedBy p cs
-      → AcceptedBy p′ (map (joinCall a b) cs)
-      × (history p′ h′ (map (joinCall a b) cs) .rulebook ≡ history p h cs .rulebook)
-      × DaysJoined a b (history p h cs .rulebook) (history p h cs .days) (history p′ h′ (map (joinCall a b) cs) .days)
-  unfolding AcceptedBy history
-  runs-again p p′ h h′ [] s y = (tt, s .same, s .days)
-  runs-again p p′ h h′ (c ∷ cs) s y =
-      let g = again (p .course) (p′ .course) (p .book) (p .out) (p′ .book) (p′ .out) (p .room) (p′ .room) h h′ (s .course) s c (y .0) in
-      let r = runs-again _ _ _ _ cs (g .after) (y .1) in
-      ((g .number, r .0), r .1, r .2)
+    -- ---- an accepted step leaves them side by side
+    abbrev p : Course → Paper
+    p course = paper course book out room
+
+    abbrev p′ : Course → Paper
+    p′ course = paper course book′ out′ room′
+
+    -- a fresh book
+    fresh-beside : (course course′ : Course) (rulebook : ℕ) → Twin a b course course′ → freshFault (length book) rulebook ≡ 0 → freshFault (length book′) rulebook ≡ 0
+        → Beside a b (rule (p course) course (makeBook rulebook) .after) (rule (p′ course′) course′ (makeBook rulebook) .after)
+        (recorded (p course) course (makeBook rulebook) h) (recorded (p′ course′) course′ (makeBook rulebook) h′)
+    unfolding rule recorded
+    fresh-beside course course′ rulebook t e z =
+        let q = made-history rulebook (length book) h e in
+        let q′ = made-history rulebook (length book′) h′ z in
+        move refl refl q q′ (record {
+          course = t;
+          years = years-fresh a b rulebook
+              (subst (λ (x : History). Holds x (freshBook book rulebook)) (sym q) (holds-fresh h book rulebook (s .kept)))
+              (subst (λ (x : History). Holds x (freshBook book′ rulebook)) (sym q′) (holds-fresh h′ book′ rulebook (s .kept′)));
+        })
+
+    -- a day ended
+    end-beside : (log : List ℕ) (rs : List Record) (row : List ℕ) → logFault log ≡ 0 → endRefusal log rs row book (length out) ≡ 0
+        → endRefusal (joinLog a b log) rs row book′ (length out′) ≡ 0
+        → Beside a b (rule (p (during log rs)) (during log rs) (endDay row) .after) (rule (p′ (during (joinLog a b log) rs)) (during (joinLog a b log) rs) (endDay row) .after)
+        (recorded (p (during log rs)) (during log rs) (endDay row) h) (recorded (p′ (during (joinLog a b log) rs)) (during (joinLog a b log) rs) (endDay row) h′)
+    end-beside log rs row g e z =
+        move (after-end (p (during log rs)) log rs row e) (after-end (p′ (during (joinLog a b log) rs)) (joinLog a b log) rs row z)
+        (sym (recorded-end (p (during log rs)) log rs row h e)) (sym (recorded-end (p′ (during (joinLog a b log) rs)) (joinLog a b log) rs row h′ z))
+        (record { course = both-idle; years = years-day a b two h h′ book book′ s log rs g (end-allows log rs row book (length out) e) })
+
+    accepted-beside : (course course′ : Course) (c c′ : Step) → Twin a b course course′ → StepJoined a b c c′
+        → refusal (p course) course c ≡ 0 → refusal (p′ course′) course′ c′ ≡ 0
+        → Beside a b (rule (p course) course c .after) (rule (p′ course′) course′ c′ .after) (recorded (p course) course c h) (recorded (p′ course′) course′ c′ h′)
+    unfolding refusal rule recorded
+    accepted-beside course course′ _ _ t (makes {rulebook}) e z = fresh-beside course course′ rulebook t e z
+    accepted-beside course course′ _ _ t asks e z = record { course = t; years = s }
+    accepted-beside course course′ _ _ t lends e z = record { course = t; years = s }
+    accepted-beside _ _ _ _ both-idle (opens {log}) e z =
+        move (after-open (p idle) log e) (after-open (p′ idle) (joinLog a b log) z) refl refl (record { course = both-open (handed-parts log book room e .0); years = s })
+    accepted-beside _ _ _ _ both-idle takes e z = absurd (omega arith)
+    accepted-beside _ _ _ _ both-idle ends e z = absurd (omega arith)
+    accepted-beside _ _ _ _ both-idle abandons e z = absurd (omega arith)
+    accepted-beside _ _ _ _ (both-open g) opens e z = absurd (omega arith)
+    accepted-beside _ _ _ _ (both-open {log} {rs} g) (takes {row}) e z =
+        move (after-take (p (during log rs)) log rs row e) (after-take (p′ (during (joinLog a b log) rs)) (joinLog a b log) rs row z) refl refl
+        (record { course = both-open g; years = s })
+    accepted-beside _ _ _ _ (both-open {log} {rs} g) (ends {row}) e z = end-beside log rs row g e z
+    accepted-beside _ _ _ _ (both-open g) abandons e z = record { course = both-idle; years = s }
+
+  -- ---- any step: the same number, and side by side after it
+  record Again (p p′ : Paper) (h h′ : History) (c c′ : Step) : Type 0 where
+    number : refusal p′ (p′ .course) c′ ≡ refusal p (p .course) c
+    after : Beside a b (rule p (p .course) c .after) (rule p′ (p′ .course) c′ .after) (recorded p (p .course) c h) (recorded p′ (p′ .course) c′ h′)
+
+  again : (p p′ : Paper) (h h′ : History) (c c′ : Step) → Beside a b p p′ h h′ → StepJoined a b c c′ → Fit p p′ c → 49152 ≤ length (p′ .out)
+      → Again p p′ h h′ c c′
+  again p p′ h h′ c c′ s j f l = record { number = n; after = go (eqb (refusal p (p .course) c) 0) refl }
+    where
+      n : refusal p′ (p′ .course) c′ ≡ refusal p (p .course) c
+      n = same-number (p .book) (p .out) (p′ .book) (p′ .out) (p .room) (p′ .room) h h′ (s .years) (p .course) (p′ .course) c c′ (s .course) j f l
+
+      go : (t : Bool) → eqb (refusal p (p .course) c) 0 ≡ t
+          → Beside a b (rule p (p .course) c .after) (rule p′ (p′ .course) c′ .after) (recorded p (p .course) c h) (recorded p′ (p′ .course) c′ h′)
+      go true e =
+          let z = eqb-true _ 0 e in
+          accepted-beside (p .book) (p .out) (p′ .book) (p′ .out) (p .room) (p′ .room) h h′ (s .years) (p .course) (p′ .course) c c′ (s .course) j z (n ∙ z)
+      go false e =
+          let z = eqb-false _ 0 e in
+          let q = refused-leaves p h (p .course) c z in
+          let q′ = refused-leaves p′ h′ (p′ .course) c′ (λ x. z (sym n ∙ x)) in
+          move (sym (q .paper)) (sym (q′ .paper)) (sym (q .days)) (sym (q′ .days)) s
+
+  -- ---- any list of steps
+  pub record Runs (p p′ : Paper) (h h′ : History) (last last′ : Course) (cs cs′ : List Step) : Type 0 where
+    pub numbers : numbersOn p′ cs′ ≡ numbersOn p cs
+    pub after : Beside a b (paperAfter p cs) (paperAfter p′ cs′) (history p h cs) (history p′ h′ cs′)
+    pub opened : Twin a b (lastOpened p last cs) (lastOpened p′ last′ cs′)
+
+  pub runs : (p p′ : Paper) (h h′ : History) (last last′ : Course) (cs cs′ : List Step) → Beside a b p p′ h h′ → Twin a b last last′ → StepsJoined a b cs cs′
+      → Fits p p′ cs → 49152 ≤ length (p′ .out) → Roomy cs′ → Runs p p′ h h′ last last′ cs cs′
+  unfolding numbersOn rules paperAfter history lastOpened
+  runs p p′ h h′ last last′ [] _ s t none f l m = record { numbers = refl; after = s; opened = t }
+  runs p p′ h h′ last last′ (c ∷ cs) (c′ ∷ cs′) s t (more j js) f l (more-lent m ms) =
+      let g = again p p′ h h′ c c′ s j (fit-first f) l in
+      let r = runs _ _ _ _ _ _ cs cs′ (g .after) (twin-latest (g .after .course) t) js (fit-rest c′ f) (full-out p′ (p′ .course) c′ l m) ms in
+      record { numbers = ap₂ {C = List ℕ} (λ x xs. x ∷ xs) (number-is p′ (p′ .course) c′ ∙ g .number ∙ sym (number-is p (p .course) c)) (r .numbers); after = r .after; opened = r .opened }

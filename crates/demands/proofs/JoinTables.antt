@@ -1,25 +1,23 @@
 -- Joining group a to group b in a log changes the groups of its account entries and nothing else: its header, its length and its
--- contracts stand, and opening's checks find no fault in it again. Assumes nothing.
+-- contracts stand, and opening's checks find the same fault in it, or again none. Assumes nothing.
 use mathlib.Core.Path.{_≡_, refl, sym, ap, _∙_}
 use mathlib.Core.Bool.{Bool, true, false, not, _&&_}
 use mathlib.Core.List.{List, [], _∷_}
 use Prim.Native.Nat.{ℕ, zero, suc, _+_, _-_, _*_, _%_, _≤_, _<_}
 use native.Mathlib.Nat.{zero-add, add-zero, suc-add, add-suc}
 use native.Mathlib.Omega.{arith}
-use borrow.Author.Tests.{le-ltb, le-leb, lt-leb, eq-eqb, ne-eqb}
-use lib.Dec.{leb, ltb, eqb, lit<}
-use lib.ListN.{length, getD, take, drop, length-take, length-drop}
+use borrow.Author.Tests.{ltb-false, eqb-true, not-false, le-ltb, le-leb, lt-leb, eq-eqb, ne-eqb}
+use lib.Dec.{leb, ltb, eqb}
+use lib.ListN.{length, getD, take, drop, length-take, length-drop, List·getD-eq-default}
 use lib.Seq.{getD-take, getD-drop, ext-getD}
 use Rattle.wire.specs.Choice.{pick, within}
-use Rattle.wire.specs.Bytes.{le}
-use Rattle.wire.proofs.ChoiceLaws.{pick-yes, pick-no, pick-same, pick-zero, and-left, and-right, and-yes, and-no, and-no-right, bounds, flip-no}
-use Rattle.wire.proofs.PlaceLaws.{every-at, every-all}
+use Rattle.wire.proofs.ChoiceLaws.{pick-yes, pick-no, pick-same, and-yes, and-no, and-no-right}
+use Rattle.wire.proofs.PlaceLaws.{every-cong}
 use Rattle.wire.proofs.ByteLaws.{le-cong}
 use Rattle.daylog.specs.Accounts.{accountAt, numberBefore, accountGoodAt, accountsGood}
-use Rattle.daylog.specs.Contracts.{contractAt, contractsGood}
+use Rattle.daylog.specs.Contracts.{contractAt}
 use Rattle.daylog.specs.Entries.{entries}
 use Rattle.daylog.specs.Header.{headerOf, markGood, contractsPart, accountsPart, tablesFault, headFault, logFault}
-use Rattle.daylog.specs.Sound.{Sound}
 use Rattle.daylog.specs.Tables.{tablesIn, tablesOf}
 use Rattle.daylog.proofs.FaultLaws.{log-sound}
 use Rattle.demands.specs.Join.{joined, groupByte, byPlace, joinLog, Joined}
@@ -37,22 +35,39 @@ by-at f h i [] k = sym (h (i + k))
 by-at f h i (x ∷ xs) zero = ap (λ (j : ℕ). f j x) (sym (add-zero i))
 by-at f h i (x ∷ xs) (suc k) = by-at f h (suc i) xs k ∙ ap (λ (j : ℕ). f j (getD xs k 0)) (suc-add i k ∙ sym (add-suc i k))
 
--- the group of a joined entry is in range again
-joined-within : (a b g : ℕ) → 1 ≤ b → b ≤ 128 → 1 ≤ g → g ≤ 128 → within 1 128 (joined a b g) ≡ true
-joined-within a b g p q r t = go (eqb g a)
+-- ---- tests
+-- the rest of a chain of refusals matters only where this one did not hold
+pick-after : (t : Bool) (n r r′ : ℕ) → (t ≡ false → r ≡ r′) → pick t n r ≡ pick t n r′
+unfolding pick
+pick-after true n r r′ h = refl
+pick-after false n r r′ h = h refl
+
+-- the group of a joined entry is in range where it was
+joined-within : (a b g : ℕ) → 1 ≤ a → a ≤ 128 → 1 ≤ b → b ≤ 128 → within 1 128 (joined a b g) ≡ within 1 128 g
+joined-within a b g some most low high = go (eqb g a) refl
   where
-    go : (c : Bool) → within 1 128 (pick c b g) ≡ true
-    go true = rw (← pick-yes true b b g refl refl) (and-yes (leb 1 b) (leb b 128) (le-leb 1 b p) (le-leb b 128 q))
-    go false = rw (← pick-no false g b g refl refl) (and-yes (leb 1 g) (leb g 128) (le-leb 1 g r) (le-leb g 128 t))
+    in-range : (x : ℕ) → 1 ≤ x → x ≤ 128 → within 1 128 x ≡ true
+    in-range x p q = and-yes (leb 1 x) (leb x 128) (le-leb 1 x p) (le-leb x 128 q)
 
--- ---- what a header and a mark are read from
-header-by : (s t : List ℕ) → getD s 3 0 ≡ getD t 3 0 → le 2 s 4 ≡ le 2 t 4 → le 4 s 6 ≡ le 4 t 6 → le 2 s 10 ≡ le 2 t 10
-    → le 2 s 12 ≡ le 2 t 12 → le 2 s 14 ≡ le 2 t 14 → headerOf s ≡ headerOf t
+    go : (t : Bool) → eqb g a ≡ t → within 1 128 (joined a b g) ≡ within 1 128 g
+    go true e =
+        ap (λ (x : ℕ). within 1 128 x) (sym (pick-yes _ _ _ _ e refl)) ∙ in-range b low high
+        ∙ sym (ap (λ (x : ℕ). within 1 128 x) (eqb-true g a e) ∙ in-range a some most)
+    go false e = ap (λ (x : ℕ). within 1 128 x) (sym (pick-no _ _ _ _ e refl))
+
+-- ---- a header is read from the first 16 bytes, and a mark from the first three
+pub header-same : (s t : List ℕ) → ((i : ℕ) → i < 16 → getD s i 0 ≡ getD t i 0) → headerOf s ≡ headerOf t
 unfolding headerOf
-header-by s t rulebook version date contracts accounts spare = rw (rulebook, version, date, contracts, accounts, spare)
+header-same s t h =
+    let version = le-cong 2 s t 4 4 (λ k l. h (4 + k) (omega arith)) in
+    let date = le-cong 4 s t 6 6 (λ k l. h (6 + k) (omega arith)) in
+    let contracts = le-cong 2 s t 10 10 (λ k l. h (10 + k) (omega arith)) in
+    let accounts = le-cong 2 s t 12 12 (λ k l. h (12 + k) (omega arith)) in
+    let spare = le-cong 2 s t 14 14 (λ k l. h (14 + k) (omega arith)) in
+    rw (h 3 (omega arith), version, date, contracts, accounts, spare)
 
-mark-by : (s t : List ℕ) → getD s 0 0 ≡ getD t 0 0 → getD s 1 0 ≡ getD t 1 0 → getD s 2 0 ≡ getD t 2 0 → markGood s ≡ markGood t
-mark-by s t p q r = rw (p, q, r)
+mark-same : (s t : List ℕ) → ((i : ℕ) → i < 16 → getD s i 0 ≡ getD t i 0) → markGood s ≡ markGood t
+mark-same s t h = rw (h 0 (omega arith), h 1 (omega arith), h 2 (omega arith))
 
 module _ (a b : ℕ) (log : List ℕ) (some : 1 ≤ a) where
   -- no account has group 0, so a byte past the end stays 0
@@ -66,28 +81,31 @@ module _ (a b : ℕ) (log : List ℕ) (some : 1 ≤ a) where
       (λ j. ap (λ (n : ℕ). pick (groupByte (headerOf log) j) n 0) zero-stays ∙ pick-same (groupByte (headerOf log) j) 0) 0 log i
       ∙ ap (λ (j : ℕ). pick (groupByte (headerOf log) j) (joined a b (getD log i 0)) (getD log i 0)) (zero-add i)
 
-  join-length : length (joinLog a b log) ≡ length log
+  stays : (i : ℕ) → groupByte (headerOf log) i ≡ false → getD (joinLog a b log) i 0 ≡ getD log i 0
+  stays i e = byte i ∙ sym (pick-no _ _ _ _ e refl)
+
+  pub join-length : length (joinLog a b log) ≡ length log
   unfolding joinLog
   join-length = by-length _ 0 log
 
-  -- ---- the bytes before the accounts
+  -- ---- the bytes before the accounts, and those after them
   before : (i : ℕ) → i < 16 + 8 * headerOf log .contracts → getD (joinLog a b log) i 0 ≡ getD log i 0
   before i h =
-      byte i
-      ∙ sym (pick-no _ _ _ _ (and-no (leb (16 + 8 * headerOf log .contracts) i) _ (lt-leb (16 + 8 * headerOf log .contracts) i h)) refl)
+      let from = 16 + 8 * headerOf log .contracts in
+      let to = from + 8 * headerOf log .accounts in
+      stays i (and-no (leb from i && ltb i to) _ (and-no (leb from i) (ltb i to) (lt-leb from i h)))
 
-  header-stands : headerOf (joinLog a b log) ≡ headerOf log
-  header-stands =
-      let j = joinLog a b log in
-      let version = le-cong 2 j log 4 4 (λ k l. before (4 + k) (omega arith)) in
-      let date = le-cong 4 j log 6 6 (λ k l. before (6 + k) (omega arith)) in
-      let contracts = le-cong 2 j log 10 10 (λ k l. before (10 + k) (omega arith)) in
-      let accounts = le-cong 2 j log 12 12 (λ k l. before (12 + k) (omega arith)) in
-      let spare = le-cong 2 j log 14 14 (λ k l. before (14 + k) (omega arith)) in
-      header-by j log (before 3 (omega arith)) version date contracts accounts spare
+  pub past : (i : ℕ) → 16 + 8 * headerOf log .contracts + 8 * headerOf log .accounts ≤ i → getD (joinLog a b log) i 0 ≡ getD log i 0
+  past i h =
+      let from = 16 + 8 * headerOf log .contracts in
+      let to = from + 8 * headerOf log .accounts in
+      stays i (and-no (leb from i && ltb i to) _ (and-no-right (leb from i) (ltb i to) (le-ltb i to h)))
+
+  pub header-stands : headerOf (joinLog a b log) ≡ headerOf log
+  header-stands = header-same (joinLog a b log) log (λ i h. before i (omega arith))
 
   mark-stands : markGood (joinLog a b log) ≡ markGood log
-  mark-stands = mark-by (joinLog a b log) log (before 0 (omega arith)) (before 1 (omega arith)) (before 2 (omega arith))
+  mark-stands = mark-same (joinLog a b log) log (λ i h. before i (omega arith))
 
   contracts-stand : contractsPart (headerOf log) (joinLog a b log) ≡ contractsPart (headerOf log) log
   contracts-stand =
@@ -104,28 +122,16 @@ module _ (a b : ℕ) (log : List ℕ) (some : 1 ≤ a) where
   other : (i : ℕ) → (i % 8 ≡ 4 → ⊥) → getD (accountsPart (headerOf log) (joinLog a b log)) i 0 ≡ getD (accountsPart (headerOf log) log) i 0
   other i n =
       let from = 16 + 8 * headerOf log .contracts in
+      let to = from + 8 * headerOf log .accounts in
       let e : from + i - from ≡ i = omega arith in
       let t : eqb ((from + i - from) % 8) 4 ≡ false = rw e (ne-eqb (i % 8) 4 n) in
-      getD-drop from (joinLog a b log) i 0 ∙ byte (from + i)
-      ∙ sym (pick-no _ _ _ _ (and-no-right (leb from (from + i)) (eqb ((from + i - from) % 8) 4) t) refl)
+      getD-drop from (joinLog a b log) i 0
+      ∙ stays (from + i) (and-no-right (leb from (from + i) && ltb (from + i) to) (eqb ((from + i - from) % 8) 4) t)
       ∙ sym (getD-drop from log i 0)
-
-  fifth : (i : ℕ) → i % 8 ≡ 4 → getD (accountsPart (headerOf log) (joinLog a b log)) i 0 ≡ joined a b (getD (accountsPart (headerOf log) log) i 0)
-  fifth i h =
-      let from = 16 + 8 * headerOf log .contracts in
-      let e : from + i - from ≡ i = omega arith in
-      let t : eqb ((from + i - from) % 8) 4 ≡ true = rw e (eq-eqb (i % 8) 4 h) in
-      getD-drop from (joinLog a b log) i 0 ∙ byte (from + i)
-      ∙ sym (pick-yes _ _ _ _ (and-yes (leb from (from + i)) (eqb ((from + i - from) % 8) 4) (le-leb from (from + i) (omega arith)) t) refl)
-      ∙ ap (joined a b) (sym (getD-drop from log i 0))
 
   number-stands : (k : ℕ) → accountAt (accountsPart (headerOf log) (joinLog a b log)) k .number ≡ accountAt (accountsPart (headerOf log) log) k .number
   unfolding accountAt
   number-stands k = le-cong 4 _ _ (8 * k) (8 * k) (λ r l. other (8 * k + r) (λ e. omega arith))
-
-  group-joins : (k : ℕ) → accountAt (accountsPart (headerOf log) (joinLog a b log)) k .group ≡ joined a b (accountAt (accountsPart (headerOf log) log) k .group)
-  unfolding accountAt
-  group-joins k = fifth (8 * k + 4) (omega arith)
 
   kind-stands : (k : ℕ) → accountAt (accountsPart (headerOf log) (joinLog a b log)) k .kind ≡ accountAt (accountsPart (headerOf log) log) k .kind
   unfolding accountAt
@@ -145,76 +151,78 @@ module _ (a b : ℕ) (log : List ℕ) (some : 1 ≤ a) where
       let from = 16 + 8 * headerOf log .contracts in
       omega (arith, length-drop from (joinLog a b log), length-drop from log, join-length)
 
-  -- ---- no fault again
-  module _ (low : 1 ≤ b) (high : b ≤ 128) where
-    account-good : (k : ℕ) → accountGoodAt (accountsPart (headerOf log) log) k ≡ true → accountGoodAt (accountsPart (headerOf log) (joinLog a b log)) k ≡ true
-    account-good k e =
-        let s = accountsPart (headerOf log) log in
-        let rises = ltb (numberBefore s k) (accountAt s k .number) in
-        let group = within 1 128 (accountAt s k .group) in
-        let kind = within 1 2 (accountAt s k .kind) in
-        let spare = eqb (accountAt s k .spare) 0 in
-        let three = and-left (rises && group && kind) spare e in
-        let two = and-left (rises && group) kind three in
-        let g = bounds 1 128 (accountAt s k .group) (and-right rises group two) in
-        let again : within 1 128 (joined a b (accountAt s k .group)) ≡ true = joined-within a b (accountAt s k .group) low high (g .0) (g .1) in
-        rw (before-stands k, number-stands k, group-joins k, kind-stands k, spare-stands k, and-left rises group two, again, and-right (rises && group) kind three) (and-right (rises && group && kind) spare e)
+  -- ---- a log that is as long as its header says: the groups join, and past its end there is no byte
+  module _ (whole : length log ≡ 16 + 8 * headerOf log .contracts + 8 * headerOf log .accounts) where
+    fifth : (i : ℕ) → i % 8 ≡ 4 → getD (accountsPart (headerOf log) (joinLog a b log)) i 0 ≡ joined a b (getD (accountsPart (headerOf log) log) i 0)
+    fifth i h =
+        let from = 16 + 8 * headerOf log .contracts in
+        getD-drop from (joinLog a b log) i 0 ∙ go (ltb (from + i) (from + 8 * headerOf log .accounts)) refl
+        ∙ ap (joined a b) (sym (getD-drop from log i 0))
+      where
+        go : (t : Bool) → ltb (16 + 8 * headerOf log .contracts + i) (16 + 8 * headerOf log .contracts + 8 * headerOf log .accounts) ≡ t
+            → getD (joinLog a b log) (16 + 8 * headerOf log .contracts + i) 0 ≡ joined a b (getD log (16 + 8 * headerOf log .contracts + i) 0)
+        go true l =
+            let from = 16 + 8 * headerOf log .contracts in
+            let to = from + 8 * headerOf log .accounts in
+            let e : from + i - from ≡ i = omega arith in
+            let t : eqb ((from + i - from) % 8) 4 ≡ true = rw e (eq-eqb (i % 8) 4 h) in
+            let u = and-yes (leb from (from + i)) (ltb (from + i) to) (le-leb from (from + i) (omega arith)) l in
+            byte (from + i) ∙ sym (pick-yes _ _ _ _ (and-yes (leb from (from + i) && ltb (from + i) to) (eqb ((from + i - from) % 8) 4) u t) refl)
+        go false l =
+            let from = 16 + 8 * headerOf log .contracts in
+            let to = from + 8 * headerOf log .accounts in
+            let m : to ≤ from + i = ltb-false (from + i) to l in
+            let z : getD log (from + i) 0 ≡ 0 = List·getD-eq-default log 0 (omega arith) in
+            past (from + i) m ∙ z ∙ sym (ap (joined a b) z ∙ zero-stays)
 
-    accounts-good : accountsGood (accountsPart (headerOf log) log) ≡ true → accountsGood (accountsPart (headerOf log) (joinLog a b log)) ≡ true
+    group-joins : (k : ℕ) → accountAt (accountsPart (headerOf log) (joinLog a b log)) k .group ≡ joined a b (accountAt (accountsPart (headerOf log) log) k .group)
+    unfolding accountAt
+    group-joins k = fifth (8 * k + 4) (omega arith)
+
+    tables-joined : Joined a b (tablesOf log) (tablesOf (joinLog a b log))
+    unfolding tablesOf tablesIn
+    tables-joined = rw header-stands (record {
+      rulebook = refl;
+      contracts = ap entries contracts-stand;
+      contract = λ k. ap (λ (s : List ℕ). contractAt s k) contracts-stand;
+      accounts = entries-stand;
+      number = number-stands;
+      kind = kind-stands;
+      group = group-joins;
+    })
+
+  -- ---- the same fault
+  module _ (most : a ≤ 128) (low : 1 ≤ b) (high : b ≤ 128) where
+    accounts-same : length log ≡ 16 + 8 * headerOf log .contracts + 8 * headerOf log .accounts
+        → accountsGood (accountsPart (headerOf log) (joinLog a b log)) ≡ accountsGood (accountsPart (headerOf log) log)
     unfolding accountsGood
-    accounts-good e =
-        every-all _ (entries (accountsPart (headerOf log) (joinLog a b log)))
-        (λ k h. account-good k (every-at _ (entries (accountsPart (headerOf log) log)) k e (rw (← entries-stand) h)))
+    accounts-same whole =
+        let s = accountsPart (headerOf log) log in
+        let t = accountsPart (headerOf log) (joinLog a b log) in
+        every-cong (accountGoodAt t) (accountGoodAt s) (entries t)
+        (λ k l. rw (before-stands k, number-stands k, group-joins whole k, kind-stands k, spare-stands k, joined-within a b (accountAt s k .group) some most low high))
+        ∙ rw entries-stand
 
-    tables-good : Sound (headerOf log) log → tablesFault (headerOf log) (joinLog a b log) ≡ 0
+    tables-same : tablesFault (headerOf log) (joinLog a b log) ≡ tablesFault (headerOf log) log
     unfolding tablesFault
-    tables-good s =
-        sym (pick-no _ _ _ _ (flip-no _ (eq-eqb _ _ (join-length ∙ s .whole)))
-        (pick-no _ _ _ _ (flip-no _ (ap (contractsGood (headerOf log .rulebook)) contracts-stand ∙ s .contracts))
-        (pick-no _ _ _ _ (flip-no _ (accounts-good (s .accounts))) refl)))
+    tables-same =
+        let h = headerOf log in
+        let n = 16 + 8 * h .contracts + 8 * h .accounts in
+        rw (join-length, contracts-stand) (pick-after (not (eqb (length log) n)) 1 _ _
+        (λ e. rw (accounts-same (eqb-true (length log) n (not-false _ e)))))
 
-    head-good : headFault (headerOf log) log ≡ 0 → Sound (headerOf log) log → headFault (headerOf log) (joinLog a b log) ≡ 0
-    unfolding headFault
-    head-good e s =
-        let e3 = pick-zero _ 3 _ (lit< tt) e in
-        let e4 = pick-zero _ 4 _ (lit< tt) (e3 .1) in
-        let e5 = pick-zero _ 5 _ (lit< tt) (e4 .1) in
-        let e6 = pick-zero _ 6 _ (lit< tt) (e5 .1) in
-        sym (pick-no _ _ _ _ (e3 .0) (pick-no _ _ _ _ (e4 .0) (pick-no _ _ _ _ (e5 .0) (pick-no _ _ _ _ (e6 .0) (sym (tables-good s))))))
-
-    log-good : logFault log ≡ 0 → logFault (joinLog a b log) ≡ 0
-    unfolding logFault
-    log-good e =
-        let s = log-sound log e in
-        let e1 = pick-zero _ 1 _ (lit< tt) e in
-        let e2 = pick-zero _ 2 _ (lit< tt) (e1 .1) in
-        sym (pick-no _ _ _ _ (le-ltb (length (joinLog a b log)) 16 (omega (arith, join-length, s .long)))
-        (pick-no _ _ _ _ (ap not mark-stands ∙ e2 .0)
-        (sym (ap (λ h. headFault h (joinLog a b log)) header-stands ∙ head-good (e2 .1) s))))
-
-  -- ---- the tables
-  tables-joined : Joined a b (tablesOf log) (tablesOf (joinLog a b log))
-  unfolding tablesOf tablesIn
-  tables-joined = rw header-stands (record {
-    rulebook = refl;
-    contracts = ap entries contracts-stand;
-    contract = λ k. ap (λ (s : List ℕ). contractAt s k) contracts-stand;
-    accounts = entries-stand;
-    number = number-stands;
-    kind = kind-stands;
-    group = group-joins;
-  })
+    fault-same : logFault (joinLog a b log) ≡ logFault log
+    unfolding logFault headFault
+    fault-same = rw (join-length, mark-stands, header-stands, tables-same)
 
 pub record JoinedLog (a b : ℕ) (log : List ℕ) : Type 0 where
-  pub sound : logFault (joinLog a b log) ≡ 0
+  pub fault : logFault (joinLog a b log) ≡ logFault log
   pub head : headerOf (joinLog a b log) ≡ headerOf log
-  pub long : length (joinLog a b log) ≡ length log
-  pub tables : Joined a b (tablesOf log) (tablesOf (joinLog a b log))
+  pub tables : logFault log ≡ 0 → Joined a b (tablesOf log) (tablesOf (joinLog a b log))
 
-pub joined-log : (a b : ℕ) (log : List ℕ) → 1 ≤ a → 1 ≤ b → b ≤ 128 → logFault log ≡ 0 → JoinedLog a b log
-joined-log a b log some low high e = record {
-  sound = log-good a b log some low high e;
+pub joined-log : (a b : ℕ) (log : List ℕ) → 1 ≤ a → a ≤ 128 → 1 ≤ b → b ≤ 128 → JoinedLog a b log
+joined-log a b log some most low high = record {
+  fault = fault-same a b log some most low high;
   head = header-stands a b log some;
-  long = join-length a b log some;
-  tables = tables-joined a b log some;
+  tables = λ e. tables-joined a b log some (log-sound log e .whole);
 }

@@ -29,10 +29,10 @@ ladder-of l = omega arith
 
 -- ---- a ladder's offence, and the lowest contract that reached the number
 module _ (t : Tables) (rs : List Record) (ladder : ℕ) where
-  abbrev reaches : ℕ → Bool
+  abbrev pub reaches : ℕ → Bool
   reaches = reachesOn t rs (groupAt ladder) (kindAt ladder) (familyAt ladder)
 
-  lowest-is : lowestOn t (timesOn t rs) ladder ≡ first reaches (t .contracts)
+  pub lowest-is : lowestOn t (timesOn t rs) ladder ≡ first reaches (t .contracts)
   unfolding lowestOn lowest reachedAt reachesOn timesOn
   lowest-is = refl
 

@@ -21,7 +21,7 @@ use Rattle.desk.specs.Offences.{offendsOn}
 use Rattle.desk.specs.Findings.{findings, bookAfter, foundCount}
 use Rattle.desk.specs.End.{rowFault}
 use Rattle.demands.specs.Counts.{timesOn}
-use Rattle.demands.specs.Calls.{Call, openDay, takeRecord, endDay, numberIn, Desk, Given, Gives}
+use Rattle.demands.specs.Calls.{Step, openDay, takeRecord, endDay, numberIn, Desk, Given, Gives}
 use Rattle.demands.specs.Paper.{idle, during, Paper, dayIn, takeNumber, endRefusal, openRuled, takeRuled, endRuled, rule}
 use Rattle.demands.specs.Logs.{front, rowsOf, isEnd, Reads, stops, cut, takes, take-refused, end-refused, ends, follows, clerkDesk, Judges, open-refused, opened, fileAfter, recordsIn, followFault, rowsNumber, logNumber, dayFindings, ruledFile, Judged, printedOf, JudgesAll, none as no-log, next as one-log, ruledLogs}
 use Rattle.demands.specs.Demand2.{LogsRuled}
@@ -79,12 +79,12 @@ module _ (log : List ℕ) (rs : List Record) where
     unfolding recordsIn
     records-take t = pick-no _ _ _ _ t refl
 
--- ---- the calls: their number, and how the desk stands where it is 0
-call-number : {w : Desk} {p : Paper} {c : Call} {g : Given} → Stands w p → Gives w c g → numberIn (g .reply) ≡ refusal p (p .course) c
+-- ---- the steps: their number, and how the desk stands where it is 0
+pub call-number : {w : Desk} {p : Paper} {c : Step} {g : Given} → Stands w p → Gives w c g → numberIn (g .reply) ≡ refusal p (p .course) c
 call-number {p = p} {c = c} s g = ap numberIn (step s g .reply) ∙ number-is p (p .course) c
 
 -- what is in the book and in the findings buffer of a desk
-record Holds (book out : List ℕ) (w : Desk) : Type 0 where
+pub record Holds (book out : List ℕ) (w : Desk) : Type 0 where
   pub in-book : w .book ≡ book
   pub in-out : w .out ≡ out
 
@@ -109,18 +109,18 @@ module _ {w : Desk} {log : List ℕ} {rs : List Record} {book out : List ℕ} {r
   unfolding rule takeRuled
   take-stands m z = subst (Stands (g .after)) (sym (pick-yes _ _ _ _ (eq-eqb _ 0 z) refl)) (step s m .after)
 
-  end-number : Gives w (endDay row) g → numberIn (g .reply) ≡ endRefusal log rs row book (length out)
+  pub end-number : Gives w (endDay row) g → numberIn (g .reply) ≡ endRefusal log rs row book (length out)
   unfolding refusal
   end-number m = call-number s m
 
-  end-holds : Gives w (endDay row) g → endRefusal log rs row book (length out) ≡ 0
+  pub end-holds : Gives w (endDay row) g → endRefusal log rs row book (length out) ≡ 0
       → Holds (bookAfter (tablesOf log) (headerOf log .date) book (timesOn (tablesOf log) rs)) (put out 0 (findings (tablesOf log) (headerOf log .date) book (timesOn (tablesOf log) rs))) (g .after)
   unfolding rule endRuled
   end-holds m z = stands-holds (subst (Stands (g .after)) (sym (pick-yes _ _ _ _ (eq-eqb _ 0 z) refl)) (step s m .after))
 
 -- ---- a log
 -- the number is the rules', and where it is 0 the book and the findings are those of the day with these records
-record Read (log book out : List ℕ) (n number : ℕ) (rs : List Record) (w : Desk) : Type 0 where
+pub record Read (log book out : List ℕ) (n number : ℕ) (rs : List Record) (w : Desk) : Type 0 where
   pub same : n ≡ number
   pub written : n ≡ 0
       → Holds (bookAfter (tablesOf log) (headerOf log .date) book (timesOn (tablesOf log) rs)) (put out 0 (findings (tablesOf log) (headerOf log .date) book (timesOn (tablesOf log) rs))) w
@@ -161,7 +161,7 @@ module _ (log book out : List ℕ) (room : ℕ) (b : bookFault (headerOf log) bo
 clerk-rests : (book : List ℕ) → Stands (clerkDesk book) (paper idle book (replicate 49152 0) cells)
 clerk-rests book = rest (length-replicate {A = ℕ} cells 0)
 
-judges : {n : ℕ} {w : Desk} (book log : List ℕ) → Judges book log n w
+pub judges : {n : ℕ} {w : Desk} (book log : List ℕ) → Judges book log n w
     → Read (front log) book (replicate 49152 0) n (logNumber book log) (recordsIn [] (rowsOf log)) w
 unfolding logNumber
 judges book log (open-refused m f) =

@@ -1,6 +1,6 @@
 -- Which numbers a call by the rules can have: never 19, and never 17 on a sound book. Assumes nothing.
 use mathlib.Core.Path.{_≡_, refl, sym, _∙_}
-use mathlib.Core.Bool.{true, not}
+use mathlib.Core.Bool.{true}
 use mathlib.Core.List.{List}
 use Prim.Native.Nat.{ℕ, _≤_, _<_}
 use native.Mathlib.Omega.{arith}
@@ -27,29 +27,30 @@ use Rattle.desk.specs.Judging.{tableFault}
 use Rattle.desk.specs.Open.{bookFault, roomFault, handedFault}
 use Rattle.desk.specs.End.{endNumber, rowFault}
 use Rattle.desk.proofs.Numbers.{number-of}
-use Rattle.demands.specs.Calls.{Call, makeBook, openDay, takeRecord, endDay, abandonDay, askBook, numberIn}
+use Rattle.demands.specs.Calls.{Step, makeBook, openDay, takeRecord, endDay, abandonDay, askBook, lendFindings, numberIn}
 use Rattle.demands.specs.Paper.{Course, idle, during, Paper, dayIn, takeNumber, endRefusal, openRuled, takeRuled, endRuled, rule}
 
 -- ---- the number that an answer has
-answered-number : (fault : ℕ) (next : State) → numberOf (answered fault next) ≡ fault
+pub answered-number : (fault : ℕ) (next : State) → numberOf (answered fault next) ≡ fault
 unfolding answered
 answered-number fault next = number-of numberOf fault _ _ refl refl
 
-fresh-number : (b : List ℕ) (rulebook : ℕ) → freshNumber (freshAnswer b rulebook) ≡ freshFault (length b) rulebook
+pub fresh-number : (b : List ℕ) (rulebook : ℕ) → freshNumber (freshAnswer b rulebook) ≡ freshFault (length b) rulebook
 unfolding freshAnswer
 fresh-number b rulebook = number-of freshNumber (freshFault (length b) rulebook) _ _ refl refl
 
-ask-number : (b : List ℕ) (group kind family : ℕ) → askNumber (askAnswer b group kind family) ≡ askFault b group kind family
+pub ask-number : (b : List ℕ) (group kind family : ℕ) → askNumber (askAnswer b group kind family) ≡ askFault b group kind family
 unfolding askAnswer
 ask-number b group kind family = number-of askNumber (askFault b group kind family) _ _ refl refl
 
 end-number : (fault found : ℕ) → endNumber (pick (eqb fault 0) (Done Closed found) (Refused fault)) ≡ fault
 end-number fault found = number-of endNumber fault _ _ refl refl
 
--- the refusal that the rules give to a call
-unfoldable pub refusal : Paper → Course → Call → ℕ
+-- the refusal that the rules give to a step
+unfoldable pub refusal : Paper → Course → Step → ℕ
 refusal p course (makeBook rulebook) = freshFault (length (p .book)) rulebook
 refusal p course (askBook group kind family) = askFault (p .book) group kind family
+refusal p course (lendFindings out) = 0
 refusal p idle (openDay log) = handedFault log (p .book) (p .room)
 refusal p idle (takeRecord row) = 10
 refusal p idle (endDay row) = 10
@@ -59,10 +60,11 @@ refusal p (during log rs) (takeRecord row) = takeNumber log rs row
 refusal p (during log rs) (endDay row) = endRefusal log rs row (p .book) (length (p .out))
 refusal p (during log rs) abandonDay = 0
 
-pub number-is : (p : Paper) (course : Course) (c : Call) → numberIn (rule p course c .reply) ≡ refusal p course c
+pub number-is : (p : Paper) (course : Course) (c : Step) → numberIn (rule p course c .reply) ≡ refusal p course c
 unfolding rule openRuled takeRuled endRuled refusal
 number-is p course (makeBook rulebook) = fresh-number (p .book) rulebook
 number-is p course (askBook group kind family) = ask-number (p .book) group kind family
+number-is p course (lendFindings out) = refl
 number-is p idle (openDay log) = answered-number _ _
 number-is p idle (takeRecord row) = answered-number 10 _
 number-is p idle (endDay row) = refl
@@ -118,12 +120,13 @@ end-not m log rs row book room h k b =
     (or-not (bookFault _ book) _ m (b _) (pick-not _ 20 _ m (λ e. k (sym e)) (λ e. omega arith))))
 
 -- a number above 16 that the book does not give, nor fresh or ask
-refusal-not : (m : ℕ) (p : Paper) (course : Course) (c : Call) → 16 < m → (m ≡ 20 → ⊥) → ((h : Header) → bookFault h (p .book) ≡ m → ⊥)
+refusal-not : (m : ℕ) (p : Paper) (course : Course) (c : Step) → 16 < m → (m ≡ 20 → ⊥) → ((h : Header) → bookFault h (p .book) ≡ m → ⊥)
     → ((rulebook : ℕ) → freshFault (length (p .book)) rulebook ≡ m → ⊥) → ((group kind family : ℕ) → askFault (p .book) group kind family ≡ m → ⊥)
     → refusal p course c ≡ m → ⊥
 unfolding refusal
 refusal-not m p course (makeBook rulebook) h k b f q = f rulebook
 refusal-not m p course (askBook group kind family) h k b f q = q group kind family
+refusal-not m p course (lendFindings out) h k b f q = λ e. omega arith
 refusal-not m p idle (openDay log) h k b f q = handed-not m log (p .book) (p .room) h b
 refusal-not m p idle (takeRecord row) h k b f q = λ e. omega arith
 refusal-not m p idle (endDay row) h k b f q = λ e. omega arith
@@ -141,7 +144,7 @@ ask-not : (b : List ℕ) (group kind family : ℕ) → askFault b group kind fam
 unfolding askFault
 ask-not b group kind family = pick-not _ 17 _ 19 (λ e. omega arith) (pick-not _ 21 _ 19 (λ e. omega arith) (λ e. omega arith))
 
-pub never-19 : (p : Paper) (course : Course) (c : Call) → refusal p course c ≡ 19 → ⊥
+pub never-19 : (p : Paper) (course : Course) (c : Step) → refusal p course c ≡ 19 → ⊥
 never-19 p course c =
     refusal-not 19 p course c (omega arith) (λ e. omega arith) (λ h. book-not h (p .book)) (λ r. fresh-not (length (p .book)) r)
     (λ g k f. ask-not (p .book) g k f)
@@ -165,6 +168,6 @@ module _ (book : List ℕ) (good : sound book ≡ true) where
   sound-ask group kind family e =
       pick-not _ 21 _ 17 (λ q. omega arith) (λ q. omega arith) (pick-no _ _ _ _ (flip-no _ good) refl ∙ e)
 
-pub never-17 : (p : Paper) (course : Course) (c : Call) → sound (p .book) ≡ true → refusal p course c ≡ 17 → ⊥
+pub never-17 : (p : Paper) (course : Course) (c : Step) → sound (p .book) ≡ true → refusal p course c ≡ 17 → ⊥
 never-17 p course c good =
     refusal-not 17 p course c (omega arith) (λ e. omega arith) (sound-book (p .book) good) (sound-fresh (p .book) good) (sound-ask (p .book) good)

@@ -15,7 +15,7 @@ use Rattle.rules.specs.Ladders.{rung, sanction}
 use Rattle.desk.specs.Offences.{groupAt}
 use Rattle.desk.specs.Findings.{memberOn}
 use Rattle.demands.specs.Counts.{howMany}
-use Rattle.demands.specs.Days.{Ended, offenceOn, offenceDays}
+use Rattle.demands.specs.Days.{Ended, offenceOn, offenceDays, carried, totalOver}
 use Rattle.demands.specs.Demand3.{InYear, more as year-more}
 use Rattle.demands.specs.Restrictions.{sanctionOn, noOpening, sanctions, restrictions}
 
@@ -71,29 +71,34 @@ step true m rulebook n k =
     let low : rung (1 + n) ≤ 3 = omega (arith, rung-next n) in
     rw (at-three rulebook (rung (1 + n)) m k low) (third-next n)
 
--- ---- the days
-days-next : (y l : ℕ) (d : Ended) (days : List Ended) → year (d .date) ≡ y
-    → offenceDays y l (d ∷ days) ≡ pick (offenceOn l d) 1 0 + offenceDays y l days
-unfolding offenceDays howMany
-days-next y l d days e = rw (eq-eqb (year (d .date)) y e)
+-- ---- the days, on a book from which nothing is carried
+module _ (from : List ℕ) (y l : ℕ) (nothing : carried from y l ≡ 0) where
+  days-next : (d : Ended) (days : List Ended) → year (d .date) ≡ y → offenceDays y l (d ∷ days) ≡ pick (offenceOn l d) 1 0 + offenceDays y l days
+  unfolding offenceDays howMany
+  days-next d days e = rw (eq-eqb (year (d .date)) y e)
 
-sanctions-next : (l : ℕ) (d : Ended) (days : List Ended)
-    → restrictions l (d ∷ days) ≡ pick (noOpening (sanctionOn l d days)) 1 0 + restrictions l days
-unfolding sanctions
-sanctions-next l d days = refl
+  total-next : (d : Ended) (days : List Ended) → year (d .date) ≡ y
+      → totalOver from (year (d .date)) l (d ∷ days) ≡ pick (offenceOn l d) 1 0 + offenceDays y l days
+  unfolding totalOver
+  total-next d days e = rw (e, nothing, zero-add) (days-next d days e)
 
-sanction-next : (y l : ℕ) (d : Ended) (days : List Ended) → year (d .date) ≡ y
-    → sanctionOn l d days
-    ≡ pick (offenceOn l d)
-    (sanction (d .tables .rulebook) (rung (pick (offenceOn l d) 1 0 + offenceDays y l days)) (memberOn (d .tables) (groupAt l))) 0
-unfolding sanctionOn
-sanction-next y l d days e = rw (e, days-next y l d days e)
+  sanctions-next : (d : Ended) (days : List Ended)
+      → restrictions from l (d ∷ days) ≡ pick (noOpening (sanctionOn from l d days)) 1 0 + restrictions from l days
+  unfolding sanctions
+  sanctions-next d days = refl
 
-pub third : (y l : ℕ) (days : List Ended) → InYear y days → KnownDays days → restrictions l days ≡ offenceDays y l days / 3
-third y l [] i k = unfold sanctions offenceDays howMany in refl
-third y l (d ∷ days) (year-more e i) (more known k) =
-    let one = step (offenceOn l d) (memberOn (d .tables) (groupAt l)) (d .tables .rulebook) (offenceDays y l days) known in
-    rw (sanctions-next l d days, sanction-next y l d days e, days-next y l d days e, third y l days i k) one
+  sanction-next : (d : Ended) (days : List Ended) → year (d .date) ≡ y
+      → sanctionOn from l d days
+      ≡ pick (offenceOn l d)
+      (sanction (d .tables .rulebook) (rung (pick (offenceOn l d) 1 0 + offenceDays y l days)) (memberOn (d .tables) (groupAt l))) 0
+  unfolding sanctionOn
+  sanction-next d days e = rw (total-next d days e)
+
+  pub third : (days : List Ended) → InYear y days → KnownDays days → restrictions from l days ≡ offenceDays y l days / 3
+  third [] i k = unfold sanctions offenceDays howMany in refl
+  third (d ∷ days) (year-more e i) (more known k) =
+      let one = step (offenceOn l d) (memberOn (d .tables) (groupAt l)) (d .tables .rulebook) (offenceDays y l days) known in
+      rw (sanctions-next d days, sanction-next d days e, days-next d days e, third days i k) one
 
 pub fewer : (m n : ℕ) → m ≤ n → m / 3 ≤ n / 3
 fewer m n h = omega arith

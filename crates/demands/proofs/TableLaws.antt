@@ -1,14 +1,14 @@
 -- What is known of the tables in a log without fault: few contracts, groups in range; and of a record that they have. Assumes nothing.
 use mathlib.Core.Path.{_≡_, refl, sym}
-use mathlib.Core.Bool.{true, _&&_}
+use mathlib.Core.Bool.{true, false, _&&_}
 use mathlib.Core.List.{List}
 use Prim.Native.Nat.{ℕ, _*_, _≤_, _<_}
 use native.Mathlib.Omega.{arith}
-use borrow.Author.Tests.{ltb-true, lt-ltb, not-false}
+use borrow.Author.Tests.{ltb-true, lt-ltb, ne-eqb, not-false}
 use lib.Dec.{ltb, eqb, lit<}
 use lib.ListN.{drop, length-take}
 use Rattle.wire.specs.Choice.{within}
-use Rattle.wire.proofs.ChoiceLaws.{pick-yes, pick-zero, and-left, and-right, bounds}
+use Rattle.wire.proofs.ChoiceLaws.{pick-yes, pick-zero, and-left, and-right, and-no-right, bounds}
 use Rattle.wire.proofs.PlaceLaws.{every-at}
 use Rattle.daylog.specs.declared.record.Record.{Record}
 use Rattle.daylog.specs.Accounts.{accountAt, numberBefore, accountGoodAt, accountsGood}
@@ -16,9 +16,9 @@ use Rattle.daylog.specs.Header.{headerOf, accountsPart, logFault}
 use Rattle.daylog.specs.Entries.{entries}
 use Rattle.daylog.specs.Tables.{Tables, tablesIn, tablesOf}
 use Rattle.daylog.proofs.FaultLaws.{log-sound}
-use Rattle.desk.specs.Counting.{accountOf, contractOf, hasAccount, hasContract, groupOf, planFor, planOf}
+use Rattle.desk.specs.Counting.{accountOf, contractOf, hasAccount, hasContract, groupOf, planFor, planOf, countsFor, counted}
 use Rattle.desk.specs.Judging.{tableFault}
-use Rattle.demands.proofs.CountLaws.{In}
+use Rattle.demands.specs.Lent.{HasCell}
 
 pub record Known (t : Tables) : Type 0 where
   pub few : t .contracts ≤ 32
@@ -63,7 +63,7 @@ unfolding groupOf hasAccount
 group-is t number h = sym (pick-yes _ _ _ _ (lt-ltb (accountOf t number) (t .accounts) h) refl)
 
 -- its group and its contract's place have cells
-pub placed : (t : Tables) → Known t → (r : Record) → Has t r → (k : ℕ) → 1 ≤ k → k ≤ 3 → In (planOf t r .group) k (planOf t r .place)
+pub placed : (t : Tables) → Known t → (r : Record) → Has t r → (k : ℕ) → 1 ≤ k → k ≤ 3 → HasCell (planOf t r .group) k (planOf t r .place)
 unfolding planOf planFor
 placed t o r h k low high =
     let g = group-is t (r .first) (h .account) in record {
@@ -73,3 +73,10 @@ placed t o r h k low high =
       last-kind = high;
       last-place = omega (arith, o .few, h .contract);
     }
+
+-- and it counts on no place past the contracts
+pub none-past : (t : Tables) (r : Record) → Has t r → (group kind place : ℕ) → t .contracts ≤ place → countsFor t r group kind place ≡ false
+unfolding countsFor planOf planFor
+none-past t r h group kind place l =
+    and-no-right (counted (planOf t r) kind && eqb (planOf t r .group) group) (eqb (contractOf t (r .contract)) place)
+    (ne-eqb (contractOf t (r .contract)) place (λ e. omega (arith, h .contract)))

@@ -1,16 +1,15 @@
--- The book is that of the days: a day ended on it makes the book of one day more. Assumes nothing.
+-- The book is that of the days ended on it: a day more makes the book of one day more. Assumes nothing.
 use mathlib.Core.Path.{_≡_, refl, sym, ap, ap₂, _∙_, subst}
 use mathlib.Core.Bool.{Bool, true, false, _&&_}
 use mathlib.Core.List.{List, [], _∷_, _++_}
-use Prim.Native.Nat.{ℕ, _+_, _<_}
-use native.Mathlib.Nat.{add-comm}
+use Prim.Native.Nat.{ℕ, _+_, _<_, _≤_}
 use native.Mathlib.Omega.{arith}
-use borrow.Author.Tests.{ltb-true, ltb-false, leb-false, eqb-true, eq-eqb, ne-eqb, not-false}
-use lib.Dec.{eqb, lit<}
+use borrow.Author.Tests.{ltb-true, ltb-false, leb-false, eqb-true, eq-eqb, ne-eqb, lt-ltb, le-ltb, not-false}
+use lib.Dec.{eqb, ltb, lit<}
 use lib.ListN.{getD}
 use Rattle.wire.specs.Choice.{pick, within}
 use Rattle.wire.specs.Bytes.{bytes}
-use Rattle.wire.proofs.ChoiceLaws.{pick-yes, pick-no, pick-zero, and-no}
+use Rattle.wire.proofs.ChoiceLaws.{pick-yes, pick-no, pick-same, pick-zero, and-no}
 use Rattle.wire.proofs.BufferLaws.{rows-cong}
 use Rattle.calendar.specs.Dates.{year, realDay}
 use Rattle.calendar.proofs.DateLaws.{real, year-rises}
@@ -27,7 +26,7 @@ use Rattle.desk.specs.Offences.{groupAt, kindAt, familyAt, offendsOn}
 use Rattle.desk.specs.Findings.{laterYear, memberOn, finding, totalAfter, foundAt, bookAfter}
 use Rattle.desk.proofs.BookKept.{after-is, kept-sound, kept-total, tables-rulebook}
 use Rattle.demands.specs.Counts.{howMany, timesOn, offence}
-use Rattle.demands.specs.Days.{Ended, offenceOn, offenceDays, lastOf, bookOver}
+use Rattle.demands.specs.Days.{Ended, endedDay, offenceOn, offenceDays, lastOn, carried, totalOver, bookOver, blank}
 use Rattle.demands.specs.Restrictions.{sanctionOn, Sanctioned, none, more}
 use Rattle.demands.proofs.ListedLaws.{offends-is}
 
@@ -55,90 +54,122 @@ pub ended-sound : (log book : List ℕ) (rs : List Record) → Ready log book
 ended-sound log book rs q =
     kept-sound (tablesOf log) (headerOf log .date) book (timesOn (tablesOf log) rs) (q .facts) (q .same) (q .date) (q .later)
 
--- ---- days, the latest first, each later than the one before
-unfoldable pub Rising : List Ended → Type 0
-Rising [] = Unit {0}
-Rising (d ∷ days) = (lastOf days < d .date) × Rising days
+-- ---- days on a book, the latest first, each later than the one before
+unfoldable pub Rising : List ℕ → List Ended → Type 0
+Rising from [] = Unit {0}
+Rising from (d ∷ days) = (lastOn from days < d .date) × Rising from days
 
 -- days of one rulebook
 unfoldable pub OfRulebook : ℕ → List Ended → Type 0
 OfRulebook rulebook [] = Unit {0}
 OfRulebook rulebook (d ∷ days) = (d .tables .rulebook ≡ rulebook) × OfRulebook rulebook days
 
+-- the book's own date is the earliest
+earliest : (from : List ℕ) (days : List Ended) → Rising from days → lastDate from ≤ lastOn from days
+unfolding lastOn Rising
+earliest from [] r = omega arith
+earliest from (d ∷ days) r = omega (arith, r .0, earliest from days (r .1))
+
 -- days of earlier years add nothing
-earlier-none : (y l : ℕ) (days : List Ended) → Rising days → year (lastOf days) < y → offenceDays y l days ≡ 0
-unfolding offenceDays howMany lastOf Rising
-earlier-none y l [] r h = refl
-earlier-none y l (d ∷ days) r h =
+earlier-none : (from : List ℕ) (y l : ℕ) (days : List Ended) → Rising from days → year (lastOn from days) < y → offenceDays y l days ≡ 0
+unfolding offenceDays howMany lastOn Rising
+earlier-none from y l [] r h = refl
+earlier-none from y l (d ∷ days) r h =
     let q : _≡_ {A = ℕ} (pick (eqb (year (d .date)) y && offenceOn l d) 1 0) 0 =
     sym (pick-no _ _ _ _ (and-no (eqb (year (d .date)) y) (offenceOn l d) (ne-eqb (year (d .date)) y (λ e. omega arith))) refl) in
-    omega (arith, earlier-none y l days (r .1) (omega (arith, year-rises (lastOf days) (d .date) (omega (arith, r .0)))))
+    omega (arith, earlier-none from y l days (r .1) (omega (arith, year-rises (lastOn from days) (d .date) (omega (arith, r .0)))))
 
--- ---- the book of the days, with what is known of it
-pub record Kept (rulebook : ℕ) (days : List Ended) (book : List ℕ) : Type 0 where
-  pub known : within 1 2 rulebook ≡ true
-  pub is : book ≡ bookOver rulebook days
-  pub small : (l : ℕ) → l < 6144 → offenceDays (year (lastOf days)) l days < 65536
-  pub short : lastOf days < 4294967296
-  pub rises : Rising days
-  pub ours : OfRulebook rulebook days
-  pub sanctions : Sanctioned rulebook days
+-- nor is anything carried into a later year
+carried-later : (from : List ℕ) (y l : ℕ) → year (lastDate from) < y → carried from y l ≡ 0
+unfolding carried
+carried-later from y l h = sym (pick-yes _ _ _ _ (lt-ltb _ _ h) refl)
+
+total-later : (from : List ℕ) (y l : ℕ) (days : List Ended) → Rising from days → year (lastOn from days) < y → totalOver from y l days ≡ 0
+unfolding totalOver
+total-later from y l days r h =
+    omega (arith, earlier-none from y l days r h, carried-later from y l (omega (arith, year-rises (lastDate from) (lastOn from days) (earliest from days r))))
+
+-- ---- the book of the days, with what can be read from it
+pub record Kept (from : List ℕ) (days : List Ended) (book : List ℕ) : Type 0 where
+  pub is : book ≡ bookOver from days
+  pub rulebook : rulebookOf book ≡ rulebookOf from
+  pub last : lastDate book ≡ lastOn from days
+  pub total : (l : ℕ) → l < 6144 → totalAt book l ≡ totalOver from (year (lastOn from days)) l days
+  pub rises : Rising from days
+  pub ours : OfRulebook (rulebookOf from) days
+  pub sanctions : Sanctioned from days
   pub good : sound book ≡ true
 
-pub kept-none : (rulebook : ℕ) → within 1 2 rulebook ≡ true → Kept rulebook [] (bookOver rulebook [])
-unfolding bookOver offenceDays howMany lastOf Rising OfRulebook
-kept-none rulebook k = record { known = k; is = refl; small = λ l h. omega arith; short = omega arith; rises = tt; ours = tt; sanctions = none; good = fresh-sound rulebook k }
+pub kept-none : (from : List ℕ) → sound from ≡ true → Kept from [] from
+unfolding bookOver totalOver carried offenceDays howMany lastOn Rising OfRulebook
+kept-none from good = record {
+  is = refl;
+  rulebook = refl;
+  last = refl;
+  total = λ l h. omega (arith, pick-no _ _ 0 _ (le-ltb (year (lastDate from)) (year (lastDate from)) (omega arith)) (refl {a = totalAt from l}));
+  rises = tt;
+  ours = tt;
+  sanctions = none;
+  good = good;
+}
 
--- what can be read from it
-module _ (rulebook : ℕ) (days : List Ended) (book : List ℕ) (k : Kept rulebook days book) where
-  pub last-is : lastDate book ≡ lastOf days
-  unfolding bookOver
-  last-is = ap lastDate (k .is) ∙ date-of-book rulebook (lastOf days) _ (k .short)
+-- ---- a fresh book
+pub blank-sound : (rulebook : ℕ) → within 1 2 rulebook ≡ true → sound (blank rulebook) ≡ true
+unfolding blank
+blank-sound rulebook k = fresh-sound rulebook k
 
-  pub total-was : (l : ℕ) → l < 6144 → totalAt book l ≡ offenceDays (year (lastOf days)) l days
-  unfolding bookOver
-  total-was l h =
-      ap (λ (s : List ℕ). totalAt s l) (k .is)
-      ∙ total-of-book rulebook (lastOf days) (λ l. offenceDays (year (lastOf days)) l days) l h (k .small l h)
+pub blank-rulebook : (rulebook : ℕ) → rulebookOf (blank rulebook) ≡ rulebook
+unfolding blank
+blank-rulebook rulebook = rulebook-of-book rulebook 0 (λ l. 0)
 
-  pub book-rulebook : rulebookOf book ≡ rulebook
-  unfolding bookOver
-  book-rulebook = ap rulebookOf (k .is) ∙ rulebook-of-book rulebook (lastOf days) _
+pub blank-carries : (rulebook y l : ℕ) → l < 6144 → carried (blank rulebook) y l ≡ 0
+unfolding carried blank
+blank-carries rulebook y l h =
+    ap (pick (ltb (year (lastDate (blank rulebook))) y) 0) (total-of-book rulebook 0 (λ l. 0) l h (omega arith)) ∙ pick-same _ 0
 
--- the day that is ended
-abbrev pub dayOf : List ℕ → List Record → Ended
-dayOf log rs = record { date = headerOf log .date; tables = tablesOf log; records = rs }
+pub blank-total : (rulebook y l : ℕ) (days : List Ended) → l < 6144 → totalOver (blank rulebook) y l days ≡ offenceDays y l days
+unfolding totalOver
+blank-total rulebook y l days h = omega (arith, blank-carries rulebook y l h)
 
-module _ (rulebook : ℕ) (days : List Ended) (log book : List ℕ) (rs : List Record) (k : Kept rulebook days book) (q : Ready log book) where
+-- ---- a day ended
+module _ (from : List ℕ) (days : List Ended) (log book : List ℕ) (rs : List Record) (k : Kept from days book) (q : Ready log book) where
   abbrev date : ℕ
   date = headerOf log .date
 
   abbrev t : Tables
   t = tablesOf log
 
-  rulebook-is : t .rulebook ≡ rulebook
-  rulebook-is = sym (q .same) ∙ book-rulebook rulebook days book k
+  rulebook-is : t .rulebook ≡ rulebookOf from
+  rulebook-is = sym (q .same) ∙ k .rulebook
 
   -- what is carried into the year of the day
-  carried : (l : ℕ) → l < 6144 → pick (laterYear book date) 0 (totalAt book l) ≡ offenceDays (year date) l days
-  carried l h = go (laterYear book date) refl
+  brought : (l : ℕ) → l < 6144 → pick (laterYear book date) 0 (totalAt book l) ≡ totalOver from (year date) l days
+  brought l h = go (laterYear book date) refl
     where
-      go : (b : Bool) → laterYear book date ≡ b → pick (laterYear book date) 0 (totalAt book l) ≡ offenceDays (year date) l days
+      go : (b : Bool) → laterYear book date ≡ b → pick (laterYear book date) 0 (totalAt book l) ≡ totalOver from (year date) l days
       go true e =
           sym (pick-yes _ _ _ _ e refl)
-          ∙ sym (earlier-none (year date) l days (k .rises) (omega (arith, ltb-true (year (lastDate book)) (year date) e, ap year (last-is rulebook days book k))))
+          ∙ sym (total-later from (year date) l days (k .rises) (omega (arith, ltb-true (year (lastDate book)) (year date) e, ap year (k .last))))
       go false e =
-          let y : year (lastOf days) ≡ year date = omega (arith, ltb-false (year (lastDate book)) (year date) e, year-rises (lastDate book) date (omega (arith, q .later)), ap year (last-is rulebook days book k)) in
-          sym (pick-no _ _ _ _ e refl) ∙ total-was rulebook days book k l h ∙ ap (λ (n : ℕ). offenceDays n l days) y
+          let y : year (lastOn from days) ≡ year date = omega (arith, ltb-false (year (lastDate book)) (year date) e, year-rises (lastDate book) date (omega (arith, q .later)), ap year (k .last)) in
+          sym (pick-no _ _ _ _ e refl) ∙ k .total l h ∙ ap (λ (n : ℕ). totalOver from n l days) y
 
   this-year : (y : ℕ) (b : Bool) → b ≡ eqb y y && b
   this-year y b = rw (eq-eqb y y refl)
 
-  total-is : (l : ℕ) → l < 6144 → totalAfter t date book (timesOn t rs) l ≡ offenceDays (year date) l (dayOf log rs ∷ days)
-  unfolding offenceDays howMany offenceOn
-  total-is l h =
-      after-is t date book (timesOn t rs) (q .facts) (q .same) (q .date) (q .later) l h
-      ∙ ap₂ (λ (x y : ℕ). x + y) (carried l h) (ap (λ (b : Bool). pick b 1 0) (offends-is t rs l ∙ this-year (year date) (offence t rs (groupAt l) (kindAt l) (familyAt l)))) ∙ add-comm _ _
+  -- one more where the day was an offence
+  one-more : (l : ℕ) → totalOver from (year date) l days + pick (offendsOn t (timesOn t rs) l) 1 0 ≡ totalOver from (year date) l (endedDay log rs ∷ days)
+  unfolding totalOver offenceDays howMany offenceOn
+  one-more l =
+      let e : _≡_ {A = ℕ} (pick (offendsOn t (timesOn t rs) l) 1 0) (pick (eqb (year date) (year date) && offence t rs (groupAt l) (kindAt l) (familyAt l)) 1 0) =
+      ap (λ (b : Bool). pick b 1 0) (offends-is t rs l ∙ this-year (year date) (offence t rs (groupAt l) (kindAt l) (familyAt l))) in
+      omega arith
+
+  summed : (l : ℕ) → l < 6144 → pick (laterYear book date) 0 (totalAt book l) + pick (offendsOn t (timesOn t rs) l) 1 0 ≡ totalOver from (year date) l (endedDay log rs ∷ days)
+  summed l h = ap (λ (n : ℕ). n + pick (offendsOn t (timesOn t rs) l) 1 0) (brought l h) ∙ one-more l
+
+  total-is : (l : ℕ) → l < 6144 → totalAfter t date book (timesOn t rs) l ≡ totalOver from (year date) l (endedDay log rs ∷ days)
+  total-is l h = after-is t date book (timesOn t rs) (q .facts) (q .same) (q .date) (q .later) l h ∙ summed l h
 
   -- the sanction in the day's finding
   byte-three : (o : Bool) (l s total id : ℕ) → getD (pick o (finding l s total id) []) 3 0 ≡ pick o s 0
@@ -146,21 +177,21 @@ module _ (rulebook : ℕ) (days : List Ended) (log book : List ℕ) (rs : List R
   byte-three true l s total id = refl
   byte-three false l s total id = refl
 
-  sanction-is : (l : ℕ) → l < 6144 → getD (foundAt t date book (timesOn t rs) l) 3 0 ≡ sanctionOn l (dayOf log rs) days
+  sanction-is : (l : ℕ) → l < 6144 → getD (foundAt t date book (timesOn t rs) l) 3 0 ≡ sanctionOn from l (endedDay log rs) days
   unfolding foundAt sanctionOn offenceOn
   sanction-is l h =
       byte-three (offendsOn t (timesOn t rs) l) l _ _ _
       ∙ ap₂ (λ (o : Bool) (n : ℕ). pick o (sanction (t .rulebook) (rung n) (memberOn t (groupAt l))) 0) (offends-is t rs l) (total-is l h)
 
-  pub kept-day : Kept rulebook (dayOf log rs ∷ days) (bookAfter t date book (timesOn t rs))
-  unfolding bookAfter bookOver bookOf lastOf Rising OfRulebook
+  pub kept-day : Kept from (endedDay log rs ∷ days) (bookAfter t date book (timesOn t rs))
+  unfolding bookAfter bookOver bookOf lastOn Rising OfRulebook
   kept-day = record {
-    known = k .known;
     is = ap₂ (λ (r : ℕ) (s : List ℕ). headOf r date ++ s) rulebook-is (rows-cong _ _ 6144 (λ l h. ap (bytes 2) (total-is l h)));
-    small = λ l h. omega (arith, sym (total-is l h) ∙ after-is t date book (timesOn t rs) (q .facts) (q .same) (q .date) (q .later) l h, kept-total t date book (timesOn t rs) (q .facts) (q .same) (q .date) (q .later) l h, sound-most _ (sound-facts _ (ended-sound log book rs q)) l h);
-    short = omega (arith, real date (q .date) .last-year);
-    rises = (omega (arith, q .later, last-is rulebook days book k), k .rises);
+    rulebook = rulebook-of-book (t .rulebook) date (totalAfter t date book (timesOn t rs)) ∙ rulebook-is;
+    last = date-of-book (t .rulebook) date (totalAfter t date book (timesOn t rs)) (omega (arith, real date (q .date) .last-year));
+    total = λ l h. kept-total t date book (timesOn t rs) (q .facts) (q .same) (q .date) (q .later) l h ∙ summed l h;
+    rises = (omega (arith, q .later, k .last), k .rises);
     ours = (rulebook-is, k .ours);
-    sanctions = more (λ l h. subst (λ (s : List ℕ). getD (foundAt t date s (timesOn t rs) l) 3 0 ≡ sanctionOn l (dayOf log rs) days) (k .is) (sanction-is l h)) (k .sanctions);
+    sanctions = more (λ l h. subst (λ (s : List ℕ). getD (foundAt t date s (timesOn t rs) l) 3 0 ≡ sanctionOn from l (endedDay log rs) days) (k .is) (sanction-is l h)) (k .sanctions);
     good = ended-sound log book rs q;
   }

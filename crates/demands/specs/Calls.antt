@@ -18,14 +18,17 @@ use Rattle.desk.specs.Open.{OpenGives}
 use Rattle.desk.specs.Abandon.{abandonAnswer}
 use Rattle.desk.specs.End.{endNumber, EndGives}
 
+-- ---- what a customer does
 -- the six calls, with what a caller makes up; header with tables, record and end record are bytes
-pub data Call : Type 0 where
-  makeBook : (rulebook : ℕ) → Call
-  openDay : (log : List ℕ) → Call
-  takeRecord : (row : List ℕ) → Call
-  endDay : (row : List ℕ) → Call
-  abandonDay : Call
-  askBook : (group kind family : ℕ) → Call
+pub data Step : Type 0 where
+  makeBook : (rulebook : ℕ) → Step
+  openDay : (log : List ℕ) → Step
+  takeRecord : (row : List ℕ) → Step
+  endDay : (row : List ℕ) → Step
+  abandonDay : Step
+  askBook : (group kind family : ℕ) → Step
+  -- and, between calls, another findings buffer of any length and bytes: of the findings it is not asked that they stay
+  lendFindings : (out : List ℕ) → Step
 
 -- an answer, of each call's kind
 pub data Reply : Type 0 where
@@ -33,6 +36,7 @@ pub data Reply : Type 0 where
   moved : Answer → Reply
   ended : Ended → Reply
   told : Asked → Reply
+  lent : Reply
 
 -- the paper's number: the refusal's, or 0 for none
 abbrev pub numberIn : Reply → ℕ
@@ -40,6 +44,7 @@ numberIn (made a) = freshNumber a
 numberIn (moved a) = numberOf a
 numberIn (ended a) = endNumber a
 numberIn (told a) = askNumber a
+numberIn lent = 0
 
 -- what goes from call to call: the state, the tables lent at the last opening that was accepted, and the buffers
 pub record Desk : Type 0 where
@@ -67,8 +72,8 @@ abbrev pub endState : State → Ended → State
 endState old (EndDone new found) = new
 endState old (EndRefused number) = old
 
--- what each call may give, by its contract; a buffer that is not lent to it to write is as it was
-pub data Gives (w : Desk) : Call → Given → Type 0 where
+-- ---- what each may give, by its contract; a buffer that is not lent to it to write is as it was
+pub data Gives (w : Desk) : Step → Given → Type 0 where
   fresh-gives : {rulebook : ℕ} {a : NewBook} {book : List ℕ} → FreshGives (w .book) rulebook a book
       → Gives w (makeBook rulebook) (record {
         reply = made a;
@@ -96,9 +101,19 @@ pub data Gives (w : Desk) : Call → Given → Type 0 where
       })
   ask-gives : {group kind family : ℕ} {a : Asked} → a ≡ askAnswer (w .book) group kind family
       → Gives w (askBook group kind family) (record { reply = told a; after = w })
+  lend-gives : {out : List ℕ}
+      → Gives w (lendFindings out) (record {
+        reply = lent;
+        after = record { state = w .state; log = w .log; counts = w .counts; book = w .book; out = out };
+      })
 
--- a list of calls, one after the other, each on what the one before left
-pub data Ran : Desk → List Call → List Given → Type 0 where
+-- a list of steps, one after the other, each on what the one before left
+pub data Ran : Desk → List Step → List Given → Type 0 where
   none : {w : Desk} → Ran w [] []
-  next : {w : Desk} {c : Call} {cs : List Call} {g : Given} {gs : List Given} → Gives w c g → Ran (g .after) cs gs
+  next : {w : Desk} {c : Step} {cs : List Step} {g : Given} {gs : List Given} → Gives w c g → Ran (g .after) cs gs
       → Ran w (c ∷ cs) (g ∷ gs)
+
+-- what they leave
+unfoldable pub left : Desk → List Given → Desk
+left w [] = w
+left w (g ∷ gs) = left (g .after) gs

@@ -1,12 +1,14 @@
 -- 01, "Ladders": totals over days. "Totals start at zero in each calendar year"; nothing is carried from step to step.
-use Prim.Native.Nat.{ℕ}
+use Prim.Native.Nat.{ℕ, _+_}
 use mathlib.Core.Bool.{Bool, _&&_}
 use mathlib.Core.List.{List, [], _∷_}
-use lib.Dec.{eqb}
+use lib.Dec.{eqb, ltb}
+use Rattle.wire.specs.Choice.{pick}
 use Rattle.calendar.specs.Dates.{year}
-use Rattle.book.specs.Layout.{bookOf}
+use Rattle.book.specs.Layout.{bookOf, rulebookOf, lastDate, totalAt}
 use Rattle.daylog.specs.declared.record.Record.{Record}
-use Rattle.daylog.specs.Tables.{Tables}
+use Rattle.daylog.specs.Header.{headerOf}
+use Rattle.daylog.specs.Tables.{Tables, tablesOf}
 use Rattle.desk.specs.Offences.{groupAt, kindAt, familyAt}
 use Rattle.desk.specs.Findings.{foundAt}
 use Rattle.demands.specs.Counts.{howMany, timesOn, offence}
@@ -17,6 +19,10 @@ pub record Ended : Type 0 where
   pub tables : Tables
   pub records : List Record
 
+-- the day of a header with tables, and of its records
+abbrev pub endedDay : List ℕ → List Record → Ended
+endedDay log rs = record { date = headerOf log .date; tables = tablesOf log; records = rs }
+
 -- the day was an offence on a ladder
 unfoldable pub offenceOn : ℕ → Ended → Bool
 offenceOn ladder d = offence (d .tables) (d .records) (groupAt ladder) (kindAt ladder) (familyAt ladder)
@@ -25,15 +31,29 @@ offenceOn ladder d = offence (d .tables) (d .records) (groupAt ladder) (kindAt l
 unfoldable pub offenceDays : ℕ → ℕ → List Ended → ℕ
 offenceDays y ladder days = howMany (λ d. eqb (year (d .date)) y && offenceOn ladder d) days
 
--- the date of the last day, 0 when there was none; the latest day stands first
-unfoldable pub lastOf : List Ended → ℕ
-lastOf [] = 0
-lastOf (d ∷ days) = d .date
+-- ---- days on a book: `from` is the book as it was before them; the latest day stands first
+-- the date of the last day, or the book's where there was none
+unfoldable pub lastOn : List ℕ → List Ended → ℕ
+lastOn from [] = lastDate from
+lastOn from (d ∷ days) = d .date
 
--- the book as bytes, from the days alone: each total is the number of offence days in the last day's year
-unfoldable pub bookOver : ℕ → List Ended → List ℕ
-bookOver rulebook days = bookOf rulebook (lastOf days) (λ ladder. offenceDays (year (lastOf days)) ladder days)
+-- what the book brings into a year: its total, and nothing into a later year than its own
+unfoldable pub carried : List ℕ → (y ladder : ℕ) → ℕ
+carried from y ladder = pick (ltb (year (lastDate from)) y) 0 (totalAt from ladder)
+
+-- a ladder's total in a year: what was carried into it, and the year's offence days
+unfoldable pub totalOver : List ℕ → (y ladder : ℕ) → List Ended → ℕ
+totalOver from y ladder days = carried from y ladder + offenceDays y ladder days
+
+-- the book as bytes: as it was where no day was ended, and else each total is that of the last day's year
+unfoldable pub bookOver : List ℕ → List Ended → List ℕ
+bookOver from [] = from
+bookOver from (d ∷ days) = bookOf (rulebookOf from) (d .date) (λ ladder. totalOver from (year (d .date)) ladder (d ∷ days))
 
 -- what a day adds to its findings for a ladder, as bytes, on the book of the days before it
-abbrev pub foundOn : ℕ → Ended → List Ended → ℕ → List ℕ
-foundOn rulebook d before ladder = foundAt (d .tables) (d .date) (bookOver rulebook before) (timesOn (d .tables) (d .records)) ladder
+abbrev pub foundOn : List ℕ → Ended → List Ended → ℕ → List ℕ
+foundOn from d before ladder = foundAt (d .tables) (d .date) (bookOver from before) (timesOn (d .tables) (d .records)) ladder
+
+-- a fresh book: no last date, and every total 0
+unfoldable pub blank : ℕ → List ℕ
+blank rulebook = bookOf rulebook 0 (λ ladder. 0)

@@ -2,31 +2,34 @@
 -- texts as the specification condenses them; a finding is listed exactly when, on some contract, enough records that are not
 -- exempt count for the group." The statements; proofs/Demand2 has the theorems under the same names.
 use mathlib.Core.Path.{_≡_}
-use mathlib.Core.Bool.{true}
-use mathlib.Core.List.{List, [], _∷_, map}
-use mathlib.Core.Logic.{_⊎_}
+use mathlib.Core.Bool.{true, false}
+use mathlib.Core.List.{List, [], _∷_, map, _++_}
 use Prim.Native.Nat.{ℕ, _<_}
 use lib.Dec.{eqb}
-use lib.ListN.{length}
+use lib.ListN.{length, replicate}
 use Rattle.wire.specs.Choice.{pick}
+use Rattle.wire.specs.Buffers.{put, rows}
 use Rattle.calendar.specs.Dates.{year}
 use Rattle.book.specs.Fresh.{freshFault, freshBook}
 use Rattle.book.specs.Layout.{ladders, lastDate, totalAt}
 use Rattle.book.specs.Sound.{sound}
 use Rattle.daylog.specs.declared.record.Record.{Record}
-use Rattle.daylog.specs.Header.{headerOf}
+use Rattle.daylog.specs.Header.{logFault}
 use Rattle.daylog.specs.Tables.{Tables, tablesOf}
 use Rattle.desk.specs.declared.state.State.the-variants.{Closed}
+use Rattle.desk.specs.Offences.{groupAt, kindAt, familyAt, lowestOn}
 use Rattle.desk.specs.Findings.{findings, foundCount}
-use Rattle.demands.specs.Counts.{timesOn}
-use Rattle.demands.specs.Days.{Ended, offenceDays, bookOver}
+use Rattle.demands.specs.Counts.{timesOn, reachesOn}
+use Rattle.demands.specs.Days.{Ended, endedDay, carried, totalOver, bookOver, foundOn, blank}
 use Rattle.demands.specs.Listed.{Lists}
-use Rattle.demands.specs.Calls.{Call, makeBook, openDay, takeRecord, endDay, abandonDay, askBook, Reply, numberIn, Desk, Given, Ran}
-use Rattle.demands.specs.Logs.{front, rowsOf, recordsIn, logNumber, ruledFile, Judged, JudgesAll, ruledLogs}
+use Rattle.demands.specs.Calls.{Step, makeBook, openDay, takeRecord, endDay, abandonDay, askBook, lendFindings, Reply, numberIn, Desk, Given, Gives, Ran, left}
+use Rattle.demands.specs.Logs.{front, rowsOf, recordsIn, logNumber, ruledFile, Judges, Judged, JudgesAll, ruledLogs}
 use Rattle.demands.specs.Paper.{Course, idle, during, Paper, Ruled, endRefusal, rule, rules}
+use Rattle.demands.specs.Lent.{lastOpened, CountsHold}
+use Rattle.demands.specs.Restrictions.{Sanctioned}
 
--- ---- any list of calls
--- what a caller sees of a call: its answer, and the book and the findings buffer as bytes
+-- ---- any list of steps
+-- what a caller sees of a step: its answer, and the book and the findings buffer as bytes
 pub record Seen : Type 0 where
   pub reply : Reply
   pub book : List ℕ
@@ -42,17 +45,14 @@ ruled r = record { reply = r .reply; book = r .after .book; out = r .after .out 
 abbrev pub begun : Desk → Paper
 begun w = record { course = idle; book = w .book; out = w .out; room = length (w .counts) }
 
--- every list of calls has its answers, so that nothing here holds for want of a run
-pub record Answered (w : Desk) (cs : List Call) : Type 0 where
-  pub given : List Given
-  pub ran : Ran w cs given
-
-abbrev pub AlwaysAnswered : Type 0
-AlwaysAnswered = (w : Desk) (cs : List Call) → Answered w cs
-
 -- every answer, every refusal's number, the findings and the book are those of the rules; for any book, any lengths of buffers
 abbrev pub CallsRuled : Type 0
-CallsRuled = (w : Desk) (cs : List Call) (gs : List Given) → w .state ≡ Closed → Ran w cs gs → map seen gs ≡ map ruled (rules (begun w) cs)
+CallsRuled = (w : Desk) (cs : List Step) (gs : List Given) → w .state ≡ Closed → Ran w cs gs → map seen gs ≡ map ruled (rules (begun w) cs)
+
+-- and the lent counts hold what the records of the day last opened count for
+abbrev pub CellsCounted : Type 0
+CellsCounted = (w : Desk) (cs : List Step) (gs : List Given) → w .state ≡ Closed → Ran w cs gs
+    → CountsHold (lastOpened (begun w) idle cs) (w .counts) (left w gs .counts)
 
 -- ---- refusals 17 and 19 never come of our own doing
 pub data None (number : ℕ) : List Given → Type 0 where
@@ -60,68 +60,84 @@ pub data None (number : ℕ) : List Given → Type 0 where
   more : {g : Given} {gs : List Given} → (numberIn (g .reply) ≡ number → ⊥) → None number gs → None number (g ∷ gs)
 
 abbrev pub NeverChanged : Type 0
-NeverChanged = (w : Desk) (cs : List Call) (gs : List Given) → w .state ≡ Closed → Ran w cs gs → None 19 gs
+NeverChanged = (w : Desk) (cs : List Step) (gs : List Given) → w .state ≡ Closed → Ran w cs gs → None 19 gs
+
+-- a run from a sound book, fresh or not, with no day open
+pub record SoundRun (w : Desk) (cs : List Step) (gs : List Given) : Type 0 where
+  pub closed : w .state ≡ Closed
+  pub good : sound (w .book) ≡ true
+  pub ran : Ran w cs gs
 
 abbrev pub NeverUnsound : Type 0
-NeverUnsound = (w : Desk) (cs : List Call) (gs : List Given) → w .state ≡ Closed → sound (w .book) ≡ true → Ran w cs gs → None 17 gs
+NeverUnsound = (w : Desk) (cs : List Step) (gs : List Given) → SoundRun w cs gs → None 17 gs
 
 -- ---- a day's findings
 abbrev pub FindingsListed : Type 0
 FindingsListed = (t : Tables) (rs : List Record) (date : ℕ) (book : List ℕ)
     → Lists t rs date book (findings t date book (timesOn t rs)) (foundCount t (timesOn t rs))
 
--- ---- totals from a fresh book
--- the rulebook of the book, and the days ended since it was made, the latest first
+-- "the lowest contract id that reached the number": on sound tables no contract of the family with a lower id did
+abbrev pub LowestId : Type 0
+LowestId = (log : List ℕ) (rs : List Record) (ladder place : ℕ) → logFault log ≡ 0 → place < tablesOf log .contracts
+    → tablesOf log .contract place .id < tablesOf log .contract (lowestOn (tablesOf log) (timesOn (tablesOf log) rs) ladder) .id
+    → reachesOn (tablesOf log) rs (groupAt ladder) (kindAt ladder) (familyAt ladder) place ≡ false
+
+-- ---- the days of a run, on the book at its start
+-- the book that the days stand on, and the days ended since, the latest first
 pub record History : Type 0 where
-  pub rulebook : ℕ
+  pub from : List ℕ
   pub days : List Ended
 
--- what a call adds: a fresh book begins anew, and a day that ends is one more
-unfoldable pub recorded : Paper → Course → Call → History → History
+-- what a step adds: a fresh book begins anew, and a day that ends is one more
+unfoldable pub recorded : Paper → Course → Step → History → History
 recorded p course (makeBook rulebook) h =
-    pick (eqb (freshFault (length (p .book)) rulebook) 0) (record { rulebook = rulebook; days = [] }) h
+    pick (eqb (freshFault (length (p .book)) rulebook) 0) (record { from = blank rulebook; days = [] }) h
 recorded p (during log rs) (endDay row) h =
-    pick (eqb (endRefusal log rs row (p .book) (length (p .out))) 0)
-    (record { rulebook = h .rulebook; days = record { date = headerOf log .date; tables = tablesOf log; records = rs } ∷ h .days }) h
+    pick (eqb (endRefusal log rs row (p .book) (length (p .out))) 0) (record { from = h .from; days = endedDay log rs ∷ h .days }) h
 recorded p idle (endDay row) h = h
 recorded p course (openDay log) h = h
 recorded p course (takeRecord row) h = h
 recorded p course abandonDay h = h
 recorded p course (askBook group kind family) h = h
+recorded p course (lendFindings out) h = h
 
-unfoldable pub history : Paper → History → List Call → History
+unfoldable pub history : Paper → History → List Step → History
 history p h [] = h
 history p h (c ∷ cs) = history (rule p (p .course) c .after) (recorded p (p .course) c h) cs
 
--- what a list of calls leaves
-unfoldable pub left : Desk → List Given → Desk
-left w [] = w
-left w (g ∷ gs) = left (g .after) gs
-
--- a fresh book is the book of no days
-abbrev pub FreshIsOfNone : Type 0
-FreshIsOfNone = (book : List ℕ) (rulebook : ℕ) → freshFault (length book) rulebook ≡ 0 → freshBook book rulebook ≡ bookOver rulebook []
-
--- a run from a fresh book, with no day open
-pub record FreshRun (rulebook : ℕ) (w : Desk) (cs : List Call) (gs : List Given) : Type 0 where
-  pub known : (rulebook ≡ 1) ⊎ (rulebook ≡ 2)
-  pub closed : w .state ≡ Closed
-  pub fresh : w .book ≡ bookOver rulebook []
-  pub ran : Ran w cs gs
-
--- the days that it ended
-abbrev pub since : ℕ → Desk → List Call → History
-since rulebook w cs = history (begun w) (record { rulebook = rulebook; days = [] }) cs
+abbrev pub since : Desk → List Step → History
+since w cs = history (begun w) (record { from = w .book; days = [] }) cs
 
 -- the book as bytes is that of the days that were ended: nothing else goes into it
 abbrev pub BookOfDays : Type 0
-BookOfDays = (rulebook : ℕ) (w : Desk) (cs : List Call) (gs : List Given) → FreshRun rulebook w cs gs
-    → left w gs .book ≡ bookOver (since rulebook w cs .rulebook) (since rulebook w cs .days)
+BookOfDays = (w : Desk) (cs : List Step) (gs : List Given) → SoundRun w cs gs
+    → left w gs .book ≡ bookOver (since w cs .from) (since w cs .days)
 
--- and each total is the number of that year's days, among those, that were an offence
+-- each total is what was carried into the year, and that year's days, among those, that were an offence
 abbrev pub TotalsCounted : Type 0
-TotalsCounted = (rulebook : ℕ) (w : Desk) (cs : List Call) (gs : List Given) → FreshRun rulebook w cs gs → (ladder : ℕ) → ladder < ladders
-    → totalAt (left w gs .book) ladder ≡ offenceDays (year (lastDate (left w gs .book))) ladder (since rulebook w cs .days)
+TotalsCounted = (w : Desk) (cs : List Step) (gs : List Given) → SoundRun w cs gs → (ladder : ℕ) → ladder < ladders
+    → totalAt (left w gs .book) ladder ≡ totalOver (since w cs .from) (year (lastDate (left w gs .book))) ladder (since w cs .days)
+
+-- a fresh book is blank, and from a blank one nothing is carried: each total is the number of the year's offence days
+abbrev pub FreshIsBlank : Type 0
+FreshIsBlank = (book : List ℕ) (rulebook : ℕ) → freshFault (length book) rulebook ≡ 0 → freshBook book rulebook ≡ blank rulebook
+
+abbrev pub BlankCarriesNothing : Type 0
+BlankCarriesNothing = (rulebook y ladder : ℕ) → ladder < ladders → carried (blank rulebook) y ladder ≡ 0
+
+-- the sanctions in the findings are those of the totals
+abbrev pub SanctionsFound : Type 0
+SanctionsFound = (w : Desk) (cs : List Step) (gs : List Given) → SoundRun w cs gs → Sanctioned (since w cs .from) (since w cs .days)
+
+-- an accepted end after any such run: one day more, and in the buffer, from its start, what that day found on each ladder
+pub record Found (w : Desk) (cs : List Step) (gs : List Given) (row : List ℕ) (g : Given) : Type 0 where
+  pub day : Ended
+  pub one-more : since w (cs ++ endDay row ∷ []) .days ≡ day ∷ since w cs .days
+  pub bytes : g .after .out ≡ put (left w gs .out) 0 (rows (foundOn (since w cs .from) day (since w cs .days)) ladders)
+
+abbrev pub FindingsFound : Type 0
+FindingsFound = (w : Desk) (cs : List Step) (gs : List Given) → SoundRun w cs gs → (row : List ℕ) (g : Given)
+    → Gives (left w gs) (endDay row) g → numberIn (g .reply) ≡ 0 → Found w cs gs row g
 
 -- ---- any list of day logs as bytes, as the clerk reads them: the numbers, the findings and the book's file are the rules'
 abbrev pub LogsRuled : Type 0
@@ -135,18 +151,23 @@ pub record Read (book : List ℕ) (logs : List (List ℕ)) : Type 0 where
 abbrev pub AlwaysRead : Type 0
 AlwaysRead = (book : List ℕ) (logs : List (List ℕ)) → Read book logs
 
--- from a fresh book's file on, the file is the book of the days whose logs were accepted
+-- from a sound book's file on, the file is the book of the days whose logs were accepted
 unfoldable pub logDays : List ℕ → List Ended → List (List ℕ) → List Ended
 logDays book days [] = days
 logDays book days (log ∷ logs) =
     logDays (ruledFile book log)
-    (pick (eqb (logNumber book log) 0)
-    (record { date = headerOf (front log) .date; tables = tablesOf (front log); records = recordsIn [] (rowsOf log) } ∷ days) days) logs
+    (pick (eqb (logNumber book log) 0) (endedDay (front log) (recordsIn [] (rowsOf log)) ∷ days) days) logs
 
 unfoldable pub lastFile : List ℕ → List Judged → List ℕ
 lastFile book [] = book
 lastFile book (j ∷ js) = lastFile (j .book) js
 
 abbrev pub FileOfDays : Type 0
-FileOfDays = (rulebook : ℕ) (logs : List (List ℕ)) (js : List Judged) → (rulebook ≡ 1) ⊎ (rulebook ≡ 2) → JudgesAll (bookOver rulebook []) logs js
-    → lastFile (bookOver rulebook []) js ≡ bookOver rulebook (logDays (bookOver rulebook []) [] logs)
+FileOfDays = (book : List ℕ) (logs : List (List ℕ)) (js : List Judged) → sound book ≡ true → JudgesAll book logs js
+    → lastFile book js ≡ bookOver book (logDays book [] logs)
+
+-- the findings buffer that is printed for the next log, where it is accepted: what its day found on each ladder
+abbrev pub LogsFound : Type 0
+LogsFound = (book : List ℕ) (logs : List (List ℕ)) (js : List Judged) → sound book ≡ true → JudgesAll book logs js
+    → (log : List ℕ) (w : Desk) → Judges (lastFile book js) log 0 w
+    → w .out ≡ put (replicate 49152 0) 0 (rows (foundOn book (endedDay (front log) (recordsIn [] (rowsOf log))) (logDays book [] logs)) ladders)

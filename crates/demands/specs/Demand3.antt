@@ -1,6 +1,6 @@
 -- Demand 3: "Join two groups in every table of an accepted year, and each day is accepted again, counts add (self-trades plus
--- the trades between the two), and no offence and no opening restriction is lost." The statements; proofs/Demand3 has the
--- theorems under the same names.
+-- the trades between the two), and no offence and no opening restriction is lost." The statements, for lists of calls and for
+-- day logs; proofs/Demand3 has the theorems under the same names.
 use mathlib.Core.Path.{_≡_}
 use mathlib.Core.Logic.{_⊎_}
 use mathlib.Core.Bool.{true}
@@ -9,120 +9,153 @@ use Prim.Native.Nat.{ℕ, _+_, _≤_, _<_}
 use lib.ListN.{length}
 use Rattle.calendar.specs.Dates.{year}
 use Rattle.book.specs.Layout.{ladders, ladderOf, totalAt}
-use Rattle.daylog.specs.declared.record.Record.{Record}
-use Rattle.daylog.specs.Header.{logFault}
-use Rattle.daylog.specs.Tables.{Tables}
+use Rattle.daylog.specs.Tables.{tablesOf}
+use Rattle.desk.specs.declared.state.State.the-variants.{Closed}
 use Rattle.desk.specs.Cells.{cells}
 use Rattle.desk.specs.Offences.{groupAt}
 use Rattle.demands.specs.Counts.{timesOf, offence}
-use Rattle.demands.specs.Days.{Ended, foundOn}
-use Rattle.demands.specs.Calls.{Call, makeBook, openDay, takeRecord, endDay, abandonDay, askBook, numberIn, Desk, Given}
-use Rattle.demands.specs.Paper.{takeNumber}
-use Rattle.demands.specs.Demand2.{left, FreshRun, since}
+use Rattle.demands.specs.Days.{Ended, foundOn, blank}
+use Rattle.demands.specs.Calls.{Step, makeBook, openDay, takeRecord, endDay, abandonDay, askBook, lendFindings, numberIn, Desk, Given, Ran, left}
+use Rattle.demands.specs.Paper.{Course, idle, during}
+use Rattle.demands.specs.Logs.{Judged, JudgesAll}
+use Rattle.demands.specs.Lent.{HasCell, cellIn, lastOpened}
+use Rattle.demands.specs.Demand2.{begun, since, logDays, lastFile}
 use Rattle.demands.specs.Join.{joinLog, Joined, between}
-use Rattle.demands.specs.Restrictions.{restrictions, Sanctioned}
+use Rattle.demands.specs.Restrictions.{restrictions}
 
--- ---- an accepted run from a fresh book, and the same calls with the two groups joined in every table
-abbrev pub joinCall : (a b : ℕ) → Call → Call
-joinCall a b (openDay log) = openDay (joinLog a b log)
-joinCall a b (makeBook rulebook) = makeBook rulebook
-joinCall a b (takeRecord row) = takeRecord row
-joinCall a b (endDay row) = endDay row
-joinCall a b abandonDay = abandonDay
-joinCall a b (askBook group kind family) = askBook group kind family
+-- "a and b differ, both 1 to 128"
+pub record Two (a b : ℕ) : Type 0 where
+  pub first-a : 1 ≤ a
+  pub last-a : a ≤ 128
+  pub first-b : 1 ≤ b
+  pub last-b : b ≤ 128
+  pub differ : a ≡ b → ⊥
+
+-- ---- what a join leaves of the counts: they add, on every contract
+-- `n` and `n′` count for a group, a kind and a contract's place, before and after; `across` the trades between the two
+pub record Added (a b : ℕ) (n n′ : (group kind place : ℕ) → ℕ) (across : ℕ → ℕ) : Type 0 where
+  pub selfs : (place : ℕ) → place < 32 → n′ b 1 place ≡ n a 1 place + n b 1 place + across place
+  pub frequent : (place : ℕ) → place < 32 → n′ b 2 place ≡ n a 2 place + n b 2 place
+  pub over : (place : ℕ) → place < 32 → n′ b 3 place ≡ n a 3 place + n b 3 place
+  pub none-left : (kind place : ℕ) → HasCell a kind place → n′ a kind place ≡ 0
+  pub others : (group kind place : ℕ) → HasCell group kind place → (group ≡ a → ⊥) → (group ≡ b → ⊥) → n′ group kind place ≡ n group kind place
+
+-- ---- of a day: `before` and `before′` are the days before it, on the book `from`
+pub record DayJoined (a b : ℕ) (from : List ℕ) (d d′ : Ended) (before before′ : List Ended) : Type 0 where
+  pub date : d′ .date ≡ d .date
+  pub records : d′ .records ≡ d .records
+  pub tables : Joined a b (d .tables) (d′ .tables)
+  pub added : Added a b (timesOf (d .tables) (d .records)) (timesOf (d′ .tables) (d .records)) (between (d .tables) (d .records) a b)
+  -- "Every day that was an offence of a or of b, of a kind in a family, is one of the joined group on the same ladder."
+  pub stays : (kind family : ℕ) → (offence (d .tables) (d .records) a kind family ≡ true) ⊎ (offence (d .tables) (d .records) b kind family ≡ true)
+      → offence (d′ .tables) (d .records) b kind family ≡ true
+  -- other groups' findings are as they were, byte for byte, and group a has none any more
+  pub others : (l : ℕ) → l < ladders → (groupAt l ≡ a → ⊥) → (groupAt l ≡ b → ⊥) → foundOn from d′ before′ l ≡ foundOn from d before l
+  pub gone : (l : ℕ) → l < ladders → groupAt l ≡ a → foundOn from d′ before′ l ≡ []
+
+pub data DaysJoined (a b : ℕ) (from : List ℕ) : List Ended → List Ended → Type 0 where
+  none : DaysJoined a b from [] []
+  more : {d d′ : Ended} {days days′ : List Ended} → DayJoined a b from d d′ days days′ → DaysJoined a b from days days′
+      → DaysJoined a b from (d ∷ days) (d′ ∷ days′)
+
+-- ---- of a year: totals at its end, and opening restrictions in it
+pub data InYear (y : ℕ) : List Ended → Type 0 where
+  none : InYear y []
+  more : {d : Ended} {days : List Ended} → year (d .date) ≡ y → InYear y days → InYear y (d ∷ days)
+
+-- group g had no more on a kind's ladder in a family than group b has after the join
+pub record NoFewer (g b : ℕ) (from book book′ : List ℕ) (days days′ : List Ended) (kind family : ℕ) : Type 0 where
+  pub totals : totalAt book (ladderOf g kind family) ≤ totalAt book′ (ladderOf b kind family)
+  pub restricted : (y : ℕ) → InYear y days → restrictions from (ladderOf g kind family) days ≤ restrictions from (ladderOf b kind family) days′
+
+-- the days, and the books that they leave
+pub record YearJoined (a b : ℕ) (from book book′ : List ℕ) (days days′ : List Ended) : Type 0 where
+  pub each : DaysJoined a b from days days′
+  pub than-a : (kind family : ℕ) → 1 ≤ kind → kind ≤ 3 → family ≤ 15 → NoFewer a b from book book′ days days′ kind family
+  pub than-b : (kind family : ℕ) → 1 ≤ kind → kind ≤ 3 → family ≤ 15 → NoFewer b b from book book′ days days′ kind family
+  -- "all other groups' findings and totals are exactly as they were, and group a has none any more"
+  pub others : (l : ℕ) → l < ladders → (groupAt l ≡ a → ⊥) → (groupAt l ≡ b → ⊥) → totalAt book′ l ≡ totalAt book l
+  pub gone : (l : ℕ) → l < ladders → groupAt l ≡ a → totalAt book′ l ≡ 0
+
+-- ---- any list of steps from a fresh book, and the same with the two groups joined in every table
+-- a findings buffer that is lent between may be another
+pub data StepJoined (a b : ℕ) : Step → Step → Type 0 where
+  makes : {rulebook : ℕ} → StepJoined a b (makeBook rulebook) (makeBook rulebook)
+  opens : {log : List ℕ} → StepJoined a b (openDay log) (openDay (joinLog a b log))
+  takes : {row : List ℕ} → StepJoined a b (takeRecord row) (takeRecord row)
+  ends : {row : List ℕ} → StepJoined a b (endDay row) (endDay row)
+  abandons : StepJoined a b abandonDay abandonDay
+  asks : {group kind family : ℕ} → StepJoined a b (askBook group kind family) (askBook group kind family)
+  lends : {out out′ : List ℕ} → StepJoined a b (lendFindings out) (lendFindings out′)
+
+pub data StepsJoined (a b : ℕ) : List Step → List Step → Type 0 where
+  none : StepsJoined a b [] []
+  more : {c c′ : Step} {cs cs′ : List Step} → StepJoined a b c c′ → StepsJoined a b cs cs′ → StepsJoined a b (c ∷ cs) (c′ ∷ cs′)
+
+-- "At most 6,144, which is 49,152 bytes"
+abbrev pub fullRoom : ℕ
+fullRoom = 49152
+
+-- every findings buffer that is lent has that room, whatever its bytes
+pub data Roomy : List Step → Type 0 where
+  none : Roomy []
+  more : {c : Step} {cs : List Step} → ((out : List ℕ) → c ≡ lendFindings out → fullRoom ≤ length out) → Roomy cs → Roomy (c ∷ cs)
 
 -- every call was accepted
 pub data Accepted : List Given → Type 0 where
   none : Accepted []
   more : {g : Given} {gs : List Given} → numberIn (g .reply) ≡ 0 → Accepted gs → Accepted (g ∷ gs)
 
--- "a and b differ, both 1 to 128"; "with a findings buffer of 49,152 bytes or more"; the counts may be longer than asked for
-pub record Run (a b rulebook : ℕ) (w w′ : Desk) (cs : List Call) (gs gs′ : List Given) : Type 0 where
-  pub first-a : 1 ≤ a
-  pub last-a : a ≤ 128
-  pub first-b : 1 ≤ b
-  pub last-b : b ≤ 128
-  pub differ : a ≡ b → ⊥
+-- the joined run has full room for findings. Of the run itself: either every call was accepted, and its buffers are of any
+-- length; or they have full room too and the counts are of one length, and any calls may have been refused
+pub data Fair (w w′ : Desk) (cs : List Step) (gs : List Given) : Type 0 where
+  accepted : Accepted gs → cells ≤ length (w′ .counts) → Fair w w′ cs gs
+  roomy : fullRoom ≤ length (w .out) → Roomy cs → length (w′ .counts) ≡ length (w .counts) → Fair w w′ cs gs
+
+-- a run from a fresh book, with no day open
+pub record FreshRun (rulebook : ℕ) (w : Desk) (cs : List Step) (gs : List Given) : Type 0 where
+  pub known : (rulebook ≡ 1) ⊎ (rulebook ≡ 2)
+  pub closed : w .state ≡ Closed
+  pub fresh : w .book ≡ blank rulebook
+  pub ran : Ran w cs gs
+
+pub record Run (a b rulebook : ℕ) (w w′ : Desk) (cs cs′ : List Step) (gs gs′ : List Given) : Type 0 where
+  pub two : Two a b
   pub run : FreshRun rulebook w cs gs
-  pub accepted : Accepted gs
-  pub joined : FreshRun rulebook w′ (map (joinCall a b) cs) gs′
-  pub counts : cells ≤ length (w′ .counts)
-  pub out : 49152 ≤ length (w′ .out)
+  pub joined : FreshRun rulebook w′ cs′ gs′
+  pub steps : StepsJoined a b cs cs′
+  pub out : fullRoom ≤ length (w′ .out)
+  pub lent : Roomy cs′
+  pub fair : Fair w w′ cs gs
 
--- the days that the run ended, and those of the joined run
-abbrev pub daysOf : ℕ → Desk → List Call → List Ended
-daysOf rulebook w cs = since rulebook w cs .days
+-- the lent counts of the two runs, on the day last opened: its cells add
+abbrev pub CellsAdded : (a b : ℕ) → Course → (c c′ : List ℕ) → Type 0
+CellsAdded a b idle c c′ = Unit {0}
+CellsAdded a b (during log rs) c c′ = Added a b (cellIn c) (cellIn c′) (between (tablesOf log) rs a b)
 
--- 1. "table and record checks give the same numbers": tables without fault have none again, and a record is refused by them
--- with the number that it was refused with, or taken
-pub record SameChecks (a b : ℕ) (log : List ℕ) : Type 0 where
-  pub tables : logFault (joinLog a b log) ≡ 0
-  pub records : (rs : List Record) (row : List ℕ) → takeNumber (joinLog a b log) rs row ≡ takeNumber log rs row
+abbrev pub numbers : List Given → List ℕ
+numbers gs = map (λ g. numberIn (g .reply)) gs
 
-abbrev pub ChecksSame : Type 0
-ChecksSame = (a b : ℕ) (log : List ℕ) → 1 ≤ a → 1 ≤ b → b ≤ 128 → (a ≡ b → ⊥) → logFault log ≡ 0 → SameChecks a b log
-
--- each call is accepted again
-abbrev pub AcceptedAgain : Type 0
-AcceptedAgain = (a b rulebook : ℕ) (w w′ : Desk) (cs : List Call) (gs gs′ : List Given) → Run a b rulebook w w′ cs gs gs′ → Accepted gs′
-
--- and the days are the same but for the groups: what they found for other groups is as it was, byte for byte, and group a has
--- no finding any more
-pub record DayJoined (a b rulebook : ℕ) (d d′ : Ended) (before before′ : List Ended) : Type 0 where
-  pub date : d′ .date ≡ d .date
-  pub records : d′ .records ≡ d .records
-  pub tables : Joined a b (d .tables) (d′ .tables)
-  pub others : (l : ℕ) → l < ladders → (groupAt l ≡ a → ⊥) → (groupAt l ≡ b → ⊥) → foundOn rulebook d′ before′ l ≡ foundOn rulebook d before l
-  pub gone : (l : ℕ) → l < ladders → groupAt l ≡ a → foundOn rulebook d′ before′ l ≡ []
-
-pub data DaysJoined (a b rulebook : ℕ) : List Ended → List Ended → Type 0 where
-  none : DaysJoined a b rulebook [] []
-  more : {d d′ : Ended} {days days′ : List Ended} → DayJoined a b rulebook d d′ days days′ → DaysJoined a b rulebook days days′
-      → DaysJoined a b rulebook (d ∷ days) (d′ ∷ days′)
-
-abbrev pub SameDays : Type 0
-SameDays = (a b rulebook : ℕ) (w w′ : Desk) (cs : List Call) (gs gs′ : List Given) → Run a b rulebook w w′ cs gs gs′
-    → DaysJoined a b (since rulebook w cs .rulebook) (daysOf rulebook w cs) (daysOf rulebook w′ (map (joinCall a b) cs))
-
--- 2. counts add, on every contract
-pub record Added (a b : ℕ) (t t′ : Tables) (rs : List Record) : Type 0 where
-  pub selfs : (place : ℕ) → timesOf t′ rs b 1 place ≡ timesOf t rs a 1 place + timesOf t rs b 1 place + between t rs a b place
-  pub frequent : (place : ℕ) → timesOf t′ rs b 2 place ≡ timesOf t rs a 2 place + timesOf t rs b 2 place
-  pub over : (place : ℕ) → timesOf t′ rs b 3 place ≡ timesOf t rs a 3 place + timesOf t rs b 3 place
-  pub none-left : (kind place : ℕ) → timesOf t′ rs a kind place ≡ 0
-  pub others : (group kind place : ℕ) → (group ≡ a → ⊥) → (group ≡ b → ⊥) → timesOf t′ rs group kind place ≡ timesOf t rs group kind place
-
-abbrev pub CountsAdd : Type 0
-CountsAdd = (a b : ℕ) (t t′ : Tables) (rs : List Record) → 1 ≤ a → (a ≡ b → ⊥) → Joined a b t t′ → Added a b t t′ rs
-
--- 3. "Every day that was an offence of a or of b, of a kind in a family, is one of the joined group on the same ladder."
-abbrev pub OffencesStay : Type 0
-OffencesStay = (a b : ℕ) (t t′ : Tables) (rs : List Record) → 1 ≤ a → (a ≡ b → ⊥) → Joined a b t t′ → (kind family : ℕ)
-    → (offence t rs a kind family ≡ true) ⊎ (offence t rs b kind family ≡ true) → offence t′ rs b kind family ≡ true
-
--- 4. totals at the year's end, and opening restrictions in the year
-pub data InYear (y : ℕ) : List Ended → Type 0 where
-  none : InYear y []
-  more : {d : Ended} {days : List Ended} → year (d .date) ≡ y → InYear y days → InYear y (d ∷ days)
-
-pub record NoFewer (a b rulebook : ℕ) (w w′ : Desk) (cs : List Call) (gs gs′ : List Given) (kind family : ℕ) : Type 0 where
-  pub total-a : totalAt (left w gs .book) (ladderOf a kind family) ≤ totalAt (left w′ gs′ .book) (ladderOf b kind family)
-  pub total-b : totalAt (left w gs .book) (ladderOf b kind family) ≤ totalAt (left w′ gs′ .book) (ladderOf b kind family)
-  pub restrictions-a : restrictions (ladderOf a kind family) (daysOf rulebook w cs) ≤ restrictions (ladderOf b kind family) (daysOf rulebook w′ (map (joinCall a b) cs))
-  pub restrictions-b : restrictions (ladderOf b kind family) (daysOf rulebook w cs) ≤ restrictions (ladderOf b kind family) (daysOf rulebook w′ (map (joinCall a b) cs))
-  -- 5. and "group a has none any more"
-  pub none-left : totalAt (left w′ gs′ .book) (ladderOf a kind family) ≡ 0
+-- the theorem over lists of steps
+pub record RunJoined (a b : ℕ) (w w′ : Desk) (cs cs′ : List Step) (gs gs′ : List Given) : Type 0 where
+  -- each call, refused ones too, gets the number that it had: an accepted one is accepted again
+  pub same-numbers : numbers gs′ ≡ numbers gs
+  pub cells-add : CellsAdded a b (lastOpened (begun w) idle cs) (left w gs .counts) (left w′ gs′ .counts)
+  pub same-book : since w′ cs′ .from ≡ since w cs .from
+  pub year : YearJoined a b (since w cs .from) (left w gs .book) (left w′ gs′ .book) (since w cs .days) (since w′ cs′ .days)
 
 abbrev pub NothingLost : Type 0
-NothingLost = (a b rulebook y : ℕ) (w w′ : Desk) (cs : List Call) (gs gs′ : List Given) → Run a b rulebook w w′ cs gs gs′
-    → InYear y (daysOf rulebook w cs) → (kind family : ℕ) → 1 ≤ kind → kind ≤ 3 → family ≤ 15 → NoFewer a b rulebook w w′ cs gs gs′ kind family
+NothingLost = (a b rulebook : ℕ) (w w′ : Desk) (cs cs′ : List Step) (gs gs′ : List Given) → Run a b rulebook w w′ cs cs′ gs gs′
+    → RunJoined a b w w′ cs cs′ gs gs′
 
--- the sanctions counted there are those that the findings have, byte for byte; so of any run from a fresh book
-abbrev pub SanctionsFound : Type 0
-SanctionsFound = (rulebook : ℕ) (w : Desk) (cs : List Call) (gs : List Given) → FreshRun rulebook w cs gs
-    → Sanctioned (since rulebook w cs .rulebook) (daysOf rulebook w cs)
+-- ---- day logs as the clerk reads them, from a fresh book's file, and the same files with the groups joined in their tables
+pub record LogsJoined (a b rulebook : ℕ) (logs : List (List ℕ)) (js js′ : List Judged) : Type 0 where
+  -- each log gets the number that it had: an accepted one is accepted again
+  pub same-numbers : map (λ j. j .number) js′ ≡ map (λ j. j .number) js
+  pub year : YearJoined a b (blank rulebook) (lastFile (blank rulebook) js) (lastFile (blank rulebook) js′)
+      (logDays (blank rulebook) [] logs) (logDays (blank rulebook) [] (map (joinLog a b) logs))
 
--- 5. "all other groups' findings and totals are exactly as they were"
-abbrev pub OthersKept : Type 0
-OthersKept = (a b rulebook : ℕ) (w w′ : Desk) (cs : List Call) (gs gs′ : List Given) → Run a b rulebook w w′ cs gs gs′
-    → (l : ℕ) → l < ladders → (groupAt l ≡ a → ⊥) → (groupAt l ≡ b → ⊥) → totalAt (left w′ gs′ .book) l ≡ totalAt (left w gs .book) l
+abbrev pub NothingLostInLogs : Type 0
+NothingLostInLogs = (a b rulebook : ℕ) (logs : List (List ℕ)) (js js′ : List Judged) → Two a b → (rulebook ≡ 1) ⊎ (rulebook ≡ 2)
+    → JudgesAll (blank rulebook) logs js → JudgesAll (blank rulebook) (map (joinLog a b) logs) js′
+    → LogsJoined a b rulebook logs js js′

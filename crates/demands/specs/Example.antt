@@ -9,7 +9,7 @@ use Rattle.wire.specs.Choice.{pick}
 use Rattle.book.specs.Layout.{ladderOf}
 use Rattle.daylog.specs.declared.record.Record.{Record}
 use Rattle.daylog.specs.Tables.{Tables}
-use Rattle.demands.specs.Days.{Ended}
+use Rattle.demands.specs.Days.{Ended, blank}
 use Rattle.demands.specs.Samples.{futures, plainTrade}
 use Rattle.demands.specs.Join.{Joined}
 use Rattle.demands.specs.Restrictions.{sanctions, restrictions}
@@ -41,11 +41,11 @@ daysWith group = dayOf 20240104 group ∷ dayOf 20240103 group ∷ dayOf 2024010
 -- ---- the two ways to count, on the ladder of a group for self-trades in futures
 -- findings with sanction 3
 unfoldable pub threeAlone : (group : ℕ) → List Ended → ℕ
-threeAlone group days = sanctions (λ s. eqb s 3) (ladderOf group 1 0) days
+threeAlone group days = sanctions (λ s. eqb s 3) (blank 1) (ladderOf group 1 0) days
 
 -- findings with sanction 3 or 5
 unfoldable pub threeOrFive : (group : ℕ) → List Ended → ℕ
-threeOrFive group days = restrictions (ladderOf group 1 0) days
+threeOrFive group days = restrictions (blank 1) (ladderOf group 1 0) days
 
 pub record WhyThreeOrFive : Type 0 where
   -- the days are of one year, and the tables after are those before with group 1 joined to group 2

@@ -4,7 +4,7 @@ use mathlib.Core.Path.{_≡_}
 use mathlib.Core.Bool.{Bool, _&&_, _||_, not}
 use mathlib.Core.List.{List, [], _∷_}
 use Prim.Native.Nat.{ℕ, suc, _+_, _-_, _*_, _%_}
-use lib.Dec.{leb, eqb}
+use lib.Dec.{leb, ltb, eqb}
 use Rattle.wire.specs.Choice.{pick}
 use Rattle.daylog.specs.declared.header.Header.{Header}
 use Rattle.daylog.specs.declared.record.Record.{Record}
@@ -18,9 +18,16 @@ use Rattle.demands.specs.Counts.{howMany}
 abbrev pub joined : (a b group : ℕ) → ℕ
 joined a b group = pick (eqb group a) b group
 
--- the byte at a place of a log is the group of an account entry: the fifth of its 8 bytes
+-- where the account entries of a log begin, and where they end
+abbrev pub accountsFrom : Header → ℕ
+accountsFrom h = 16 + 8 * h .contracts
+
+abbrev pub accountsTo : Header → ℕ
+accountsTo h = accountsFrom h + 8 * h .accounts
+
+-- the byte at a place of a log, or of a file that begins with its tables, is the group of an account entry: the fifth of its 8
 abbrev pub groupByte : Header → ℕ → Bool
-groupByte h i = leb (16 + 8 * h .contracts) i && eqb ((i - (16 + 8 * h .contracts)) % 8) 4
+groupByte h i = leb (accountsFrom h) i && ltb i (accountsTo h) && eqb ((i - accountsFrom h) % 8) 4
 
 -- every byte by its place, which is counted from i on
 unfoldable pub byPlace : (ℕ → ℕ → ℕ) → ℕ → List ℕ → List ℕ

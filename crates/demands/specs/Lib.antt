@@ -3,11 +3,14 @@ pub mod Days
 pub mod Listed
 pub mod Calls
 pub mod Paper
+pub mod Lent
 pub mod Logs
+pub mod Restrictions
+pub mod Demand1
 pub mod Demand2
 pub mod Join
-pub mod Restrictions
 pub mod Demand3
 pub mod Samples
 pub mod Example
 pub mod Starred
+pub mod Worked

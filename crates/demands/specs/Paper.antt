@@ -1,7 +1,7 @@
--- The same calls by the rules alone: an open day is the list of the records that it took. No cells.
+-- The same steps by the rules alone: an open day is the list of the records that it took. No cells.
 use Prim.Native.Nat.{ℕ, _+_, _*_}
 use mathlib.Core.Bool.{not}
-use mathlib.Core.List.{List, [], _∷_}
+use mathlib.Core.List.{List, [], _∷_, map}
 use lib.Dec.{leb, ltb, eqb}
 use lib.ListN.{length}
 use Rattle.wire.specs.Choice.{pick, orElse}
@@ -21,7 +21,7 @@ use Rattle.desk.specs.Open.{bookFault, handedFault}
 use Rattle.desk.specs.Findings.{findings, bookAfter, foundCount}
 use Rattle.desk.specs.End.{rowFault}
 use Rattle.demands.specs.Counts.{timesOn}
-use Rattle.demands.specs.Calls.{Call, makeBook, openDay, takeRecord, endDay, abandonDay, askBook, Reply, made, moved, ended, told}
+use Rattle.demands.specs.Calls.{Step, makeBook, openDay, takeRecord, endDay, abandonDay, askBook, lendFindings, Reply, made, moved, ended, told, lent, numberIn}
 
 -- no day is open, or one is, with its tables as bytes and the records that it took, the latest first
 pub data Course : Type 0 where
@@ -90,10 +90,14 @@ endRuled p log rs fault =
 abbrev pub no10 : Paper → Ruled
 no10 p = record { reply = moved (answered 10 Closed); after = p }
 
--- ---- each call
-unfoldable pub rule : Paper → Course → Call → Ruled
-rule p course (makeBook rulebook) =
-    record { reply = made (freshAnswer (p .book) rulebook); after = record { course = p .course; book = freshBook (p .book) rulebook; out = p .out; room = p .room } }
+-- ---- each step
+unfoldable pub rule : Paper → Course → Step → Ruled
+rule p course (makeBook rulebook) = record {
+  reply = made (freshAnswer (p .book) rulebook);
+  after = record { course = p .course; book = freshBook (p .book) rulebook; out = p .out; room = p .room };
+}
+rule p course (lendFindings out) =
+    record { reply = lent; after = record { course = p .course; book = p .book; out = out; room = p .room } }
 rule p course (askBook group kind family) = record { reply = told (askAnswer (p .book) group kind family); after = p }
 rule p idle (openDay log) = openRuled p log (handedFault log (p .book) (p .room))
 rule p idle (takeRecord row) = no10 p
@@ -104,7 +108,16 @@ rule p (during log rs) (takeRecord row) = takeRuled p log rs row (takeNumber log
 rule p (during log rs) (endDay row) = endRuled p log rs (endRefusal log rs row (p .book) (length (p .out)))
 rule p (during log rs) abandonDay = record { reply = moved (answered 0 Closed); after = at p idle }
 
--- a list of calls
-unfoldable pub rules : Paper → List Call → List Ruled
+-- a list of steps
+unfoldable pub rules : Paper → List Step → List Ruled
 rules p [] = []
 rules p (c ∷ cs) = rule p (p .course) c ∷ rules (rule p (p .course) c .after) cs
+
+-- their numbers, 0 for no refusal
+unfoldable pub numbersOn : Paper → List Step → List ℕ
+numbersOn p cs = map (λ r. numberIn (r .reply)) (rules p cs)
+
+-- the paper that they leave
+unfoldable pub paperAfter : Paper → List Step → Paper
+paperAfter p [] = p
+paperAfter p (c ∷ cs) = paperAfter (rule p (p .course) c .after) cs

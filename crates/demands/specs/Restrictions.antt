@@ -12,30 +12,31 @@ use Rattle.rules.specs.Ladders.{rung, sanction}
 use Rattle.book.specs.Layout.{ladders}
 use Rattle.desk.specs.Offences.{groupAt}
 use Rattle.desk.specs.Findings.{memberOn}
-use Rattle.demands.specs.Days.{Ended, offenceOn, offenceDays, foundOn}
+use Rattle.demands.specs.Days.{Ended, offenceOn, totalOver, foundOn}
 
+-- ---- days on a book, the latest first
 -- the sanction of a day's finding on a ladder, after the days before it; 0 where there is none
-unfoldable pub sanctionOn : ℕ → Ended → List Ended → ℕ
-sanctionOn ladder d before =
+unfoldable pub sanctionOn : List ℕ → ℕ → Ended → List Ended → ℕ
+sanctionOn from ladder d before =
     pick (offenceOn ladder d)
-    (sanction (d .tables .rulebook) (rung (offenceDays (year (d .date)) ladder (d ∷ before))) (memberOn (d .tables) (groupAt ladder)))
+    (sanction (d .tables .rulebook) (rung (totalOver from (year (d .date)) ladder (d ∷ before))) (memberOn (d .tables) (groupAt ladder)))
     0
 
 abbrev pub noOpening : ℕ → Bool
 noOpening s = eqb s 3 || eqb s 5
 
--- how many findings on a ladder had a sanction that a test picks out; the latest day stands first
-unfoldable pub sanctions : (ℕ → Bool) → ℕ → List Ended → ℕ
-sanctions test ladder [] = 0
-sanctions test ladder (d ∷ before) = pick (test (sanctionOn ladder d before)) 1 0 + sanctions test ladder before
+-- how many findings on a ladder had a sanction that a test picks out
+unfoldable pub sanctions : (ℕ → Bool) → List ℕ → ℕ → List Ended → ℕ
+sanctions test from ladder [] = 0
+sanctions test from ladder (d ∷ before) = pick (test (sanctionOn from ladder d before)) 1 0 + sanctions test from ladder before
 
 -- "its number of opening restrictions (findings with sanction 3 or 5)"
-abbrev pub restrictions : ℕ → List Ended → ℕ
+abbrev pub restrictions : List ℕ → ℕ → List Ended → ℕ
 restrictions = sanctions noOpening
 
--- ---- the sanctions of a run's days are those in its findings: byte 3 of each
-pub data Sanctioned (rulebook : ℕ) : List Ended → Type 0 where
-  none : Sanctioned rulebook []
+-- the sanctions of a run's days are those in its findings: byte 3 of each
+pub data Sanctioned (from : List ℕ) : List Ended → Type 0 where
+  none : Sanctioned from []
   more : {d : Ended} {days : List Ended}
-      → ((l : ℕ) → l < ladders → getD (foundOn rulebook d days l) 3 0 ≡ sanctionOn l d days)
-      → Sanctioned rulebook days → Sanctioned rulebook (d ∷ days)
+      → ((l : ℕ) → l < ladders → getD (foundOn from d days l) 3 0 ≡ sanctionOn from l d days)
+      → Sanctioned from days → Sanctioned from (d ∷ days)

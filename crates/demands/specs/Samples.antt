@@ -1,5 +1,10 @@
--- A contract and a trade of document 01's layouts, from which the starred rows and the example of demand 3 are made.
+-- A contract, a trade and a book of document 01's layouts, from which the starred rows, the example of demand 3 and document
+-- 01's own example are made.
 use Prim.Native.Nat.{ℕ}
+use mathlib.Core.List.{List}
+use lib.Dec.{eqb}
+use Rattle.wire.specs.Choice.{pick}
+use Rattle.book.specs.Layout.{bookOf}
 use Rattle.rules.specs.Measure.{lots}
 use Rattle.daylog.specs.declared.contracts.Contract.{Contract}
 use Rattle.daylog.specs.declared.record.Record.{Record}
@@ -22,3 +27,7 @@ plainTrade buyer seller = record {
   instruction2 = 1;
   purpose2 = 1;
 }
+
+-- a book of rulebook 1 with a last date and one total that is not 0, at a ladder
+unfoldable pub bookWithOne : (ladder date total : ℕ) → List ℕ
+bookWithOne ladder date total = bookOf 1 date (λ l. pick (eqb l ladder) total 0)

@@ -10,13 +10,13 @@ use Rattle.wire.specs.Choice.{pick}
 use Rattle.calendar.specs.Dates.{realDay}
 use Rattle.rules.specs.Measure.{lots, large}
 use Rattle.rules.specs.Ladders.{rung}
-use Rattle.book.specs.Layout.{bookOf}
+use Rattle.book.specs.Layout.{ladderOf}
 use Rattle.book.specs.Sound.{sound}
 use Rattle.daylog.specs.declared.record.Record.{Record}
 use Rattle.daylog.specs.Tables.{Tables}
 use Rattle.desk.specs.Counting.{countsFor}
 use Rattle.demands.specs.Counts.{offence}
-use Rattle.demands.specs.Samples.{futures, plainTrade}
+use Rattle.demands.specs.Samples.{futures, plainTrade, bookWithOne}
 
 -- ---- the days of the rows
 -- futures contracts 101, 102 and so on with one largest order, all of product 0 and so of family 0 in both rulebooks;
@@ -83,8 +83,8 @@ cancelCounts rulebook amount largest kind = countsFor (dayWith rulebook 1 larges
 
 -- ---- and of a book
 -- a book of rulebook 1 with a last date and one total that is not 0, that of group 1, kind 1, family 0
-unfoldable pub bookWith : (date total : ℕ) → List ℕ
-bookWith date total = bookOf 1 date (λ ladder. pick (eqb ladder 0) total 0)
+abbrev pub bookWith : (date total : ℕ) → List ℕ
+bookWith date total = bookWithOne (ladderOf 1 1 0) date total
 
 -- ---- the table
 unfoldable pub starred : List Bool

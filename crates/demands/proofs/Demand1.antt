@@ -1,0 +1,67 @@
+-- Demand 1: the theorems to specs/Demand1. Assumes nothing.
+use mathlib.Core.Path.{_≡_, refl, sym, ap, ap₂, _∙_, subst}
+use mathlib.Core.Bool.{Bool, true, false}
+use mathlib.Core.List.{List, [], _∷_}
+use borrow.Author.Tests.{ne-eqb}
+use lib.Dec.{eqb}
+use Rattle.wire.specs.Choice.{pick}
+use Rattle.wire.proofs.ChoiceLaws.{pick-no}
+use Rattle.book.specs.Fresh.{freshNumber, freshBook}
+use Rattle.book.specs.Ask.{askNumber}
+use Rattle.book.proofs.Unique.{fresh-unique, ask-unique}
+use Rattle.desk.specs.Answers.{numberOf, answered}
+use Rattle.desk.specs.Abandon.{abandonAnswer}
+use Rattle.desk.proofs.Unique.{open-unique, take-unique, end-unique, abandon-unique}
+use Rattle.desk.proofs.Numbers.{moves-number, ends-number}
+use Rattle.demands.specs.Calls.{Step, Desk, Given, Gives, fresh-gives, open-gives, take-gives, end-gives, abandon-gives, ask-gives, lend-gives, Ran, none, next}
+use Rattle.demands.specs.Demand1.{AlwaysAnswered, OneAnswer, named, NumberNamed, RefusalKeeps}
+use Rattle.demands.proofs.NumberLaws.{answered-number, fresh-number, ask-number}
+use Rattle.demands.proofs.Answers.{answers}
+
+-- ---- there is an answer, and no second one
+pub always-answered : AlwaysAnswered
+always-answered = answers
+
+one-given : {w : Desk} {c : Step} {g g′ : Given} → Gives w c g → Gives w c g′ → g ≡ g′
+one-given (fresh-gives m) (fresh-gives n) = let q = fresh-unique _ _ _ _ _ _ m n in rw (q .0, q .1)
+one-given (open-gives m) (open-gives n) = let q = open-unique _ _ _ _ _ _ _ _ m n in rw (q .0, q .1)
+one-given (take-gives m) (take-gives n) = let q = take-unique _ _ _ _ _ _ _ _ m n in rw (q .0, q .1)
+one-given (end-gives m) (end-gives n) = let q = end-unique _ _ _ _ _ _ _ _ _ _ _ _ m n in rw (q .0, q .1, q .2)
+one-given (abandon-gives m) (abandon-gives n) = rw (abandon-unique _ _ _ m n)
+one-given (ask-gives m) (ask-gives n) = rw (ask-unique _ _ _ _ _ _ m n)
+one-given lend-gives lend-gives = refl
+
+pub one-answer : OneAnswer
+one-answer w [] [] [] none none = refl
+one-answer w (c ∷ cs) (g ∷ gs) (h ∷ hs) (next m r) (next n s) =
+    let e : g ≡ h = one-given m n in
+    ap₂ {C = List Given} (λ x xs. x ∷ xs) e (one-answer (h .after) cs gs hs (subst (λ (x : Given). Ran (x .after) cs gs) e r) s)
+
+-- ---- its number is the one named
+pub number-named : NumberNamed
+unfolding named abandonAnswer
+number-named w c g (fresh-gives {rulebook} m) = ap freshNumber (m .answer) ∙ fresh-number (w .book) rulebook
+number-named w c g (open-gives m) = moves-number m
+number-named w c g (take-gives m) = moves-number m
+number-named w c g (end-gives m) = ends-number m
+number-named w c g (abandon-gives e) = ap numberOf e ∙ answered-number _ _
+number-named w c g (ask-gives {group} {kind} {family} e) = ap askNumber e ∙ ask-number (w .book) group kind family
+number-named w c g lend-gives = refl
+
+-- ---- a refusal leaves everything as it was
+-- what is chosen where the test does not hold
+was : {A : Type 0} {t : Bool} {x old : A} (new : A) → t ≡ false → x ≡ pick t new old → x ≡ old
+was new e q = q ∙ sym (pick-no _ _ _ _ e refl)
+
+keeps : {w : Desk} {c : Step} {g : Given} → Gives w c g → eqb (named w c) 0 ≡ false → g .after ≡ w
+unfolding named freshBook abandonAnswer answered
+keeps (fresh-gives m) e = rw (was _ e (m .book))
+keeps (open-gives m) e = rw (was _ e (m .answer), was _ e (m .counts))
+keeps (take-gives m) e = rw (was _ e (m .answer), was _ e (m .counts))
+keeps (end-gives m) e = rw (was _ e (m .answer), was _ e (m .book-after), was _ e (m .findings-after))
+keeps (abandon-gives m) e = rw (was _ e m)
+keeps (ask-gives m) e = refl
+keeps lend-gives e = let no : true ≡ false = e in cc
+
+pub refusal-keeps : RefusalKeeps
+refusal-keeps w c g m some = keeps m (ne-eqb (named w c) 0 (λ z. some (number-named w c g m ∙ z)))

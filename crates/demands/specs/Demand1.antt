@@ -1,0 +1,43 @@
+-- Demand 1: "Each call ends with an answer whatever it is handed. A refusal gives the number the specification names, in the
+-- order it names, and book, counts and findings stay exactly as they were." The statements; proofs/Demand1 has the theorems
+-- under the same names.
+use mathlib.Core.Path.{_≡_}
+use mathlib.Core.List.{List}
+use Prim.Native.Nat.{ℕ}
+use lib.ListN.{length}
+use Rattle.book.specs.Fresh.{freshFault}
+use Rattle.book.specs.Ask.{askFault}
+use Rattle.desk.specs.Open.{openFault}
+use Rattle.desk.specs.Take.{takeFault}
+use Rattle.desk.specs.End.{endFault}
+use Rattle.desk.specs.Abandon.{abandonFault}
+use Rattle.demands.specs.Calls.{Step, makeBook, openDay, takeRecord, endDay, abandonDay, askBook, lendFindings, numberIn, Desk, Given, Gives, Ran}
+
+-- ---- "Each call ends with an answer whatever it is handed": for every list of steps, on every desk, there is one
+pub record Answered (w : Desk) (cs : List Step) : Type 0 where
+  pub given : List Given
+  pub ran : Ran w cs given
+
+abbrev pub AlwaysAnswered : Type 0
+AlwaysAnswered = (w : Desk) (cs : List Step) → Answered w cs
+
+-- and no second one fits: answer, state and every buffer
+abbrev pub OneAnswer : Type 0
+OneAnswer = (w : Desk) (cs : List Step) (gs gs′ : List Given) → Ran w cs gs → Ran w cs gs′ → gs ≡ gs′
+
+-- ---- "the number the specification names, in the order it names": each call's chain of refusals, 0 for none
+unfoldable pub named : Desk → Step → ℕ
+named w (makeBook rulebook) = freshFault (length (w .book)) rulebook
+named w (openDay log) = openFault (w .state) log (w .book) (w .counts)
+named w (takeRecord row) = takeFault (w .state) (w .log) row (w .counts)
+named w (endDay row) = endFault (w .state) (w .log) row (w .book) (w .counts) (w .out)
+named w abandonDay = abandonFault (w .state)
+named w (askBook group kind family) = askFault (w .book) group kind family
+named w (lendFindings out) = 0
+
+abbrev pub NumberNamed : Type 0
+NumberNamed = (w : Desk) (c : Step) (g : Given) → Gives w c g → numberIn (g .reply) ≡ named w c
+
+-- ---- "and book, counts and findings stay exactly as they were"; so do the state, and the tables of the day that is open
+abbrev pub RefusalKeeps : Type 0
+RefusalKeeps = (w : Desk) (c : Step) (g : Given) → Gives w c g → (numberIn (g .reply) ≡ 0 → ⊥) → g .after ≡ w

@@ -14,3 +14,5 @@ pub mod Samples
 pub mod Example
 pub mod Starred
 pub mod Worked
+pub mod Tied
+pub mod Promised

@@ -1,1 +1,58 @@
-// What was asked for, stated in specs/ and proved in proofs/ over the definitions of the crates below. There is no code here.
+// What was asked for, stated in specs/ and proved in proofs/. The functions here tie the statements to the code: where a call
+// promises less, or a theorem goes, one of them is no longer proved. Nobody calls them.
+use book::ask::Asked;
+use book::fresh::NewBook;
+use desk::end::Ended;
+use desk::state::Answer;
+use desk::state::State;
+ghost use Rattle.demands.specs.Promised.{Promised};
+ghost use Rattle.demands.specs.Tied.{FreshTied, OpenTied, TakeTied, EndTied, AbandonTied, AskTied};
+
+fn fresh_tied(book: &mut [u8], rulebook: u64) -> NewBook
+    ensures { λ a. ⌜ FreshTied (now (book .entry)) rulebook a (now (book .exit)) ⌝ }
+{
+    book::fresh::fresh(book, rulebook)
+}
+
+fn open_tied(state: State, log: &[u8], book: &[u8], counts: &mut [u32]) -> Answer
+    ensures { λ a. ⌜ OpenTied state (now (log .entry)) (now (book .entry)) (now (counts .entry)) a (now (counts .exit)) ⌝ }
+{
+    desk::open::open(state, log, book, counts)
+}
+
+fn take_tied(state: State, log: &[u8], row: &[u8], counts: &mut [u32]) -> Answer
+    ensures { λ a. ⌜ TakeTied state (now (log .entry)) (now (row .entry)) (now (counts .entry)) a (now (counts .exit)) ⌝ }
+{
+    desk::take::take(state, log, row, counts)
+}
+
+fn end_tied(
+    state: State,
+    log: &[u8],
+    row: &[u8],
+    book: &mut [u8],
+    counts: &[u32],
+    findings: &mut [u8],
+) -> Ended
+    ensures { λ a. ⌜ EndTied state (now (log .entry)) (now (row .entry)) (now (book .entry)) (now (counts .entry)) (now (findings .entry))
+        a (now (book .exit)) (now (findings .exit)) ⌝ }
+{
+    desk::end::end(state, log, row, book, counts, findings)
+}
+
+fn abandon_tied(state: State) -> Answer
+    ensures { λ a. ⌜ AbandonTied state a ⌝ }
+{
+    desk::abandon::abandon(state)
+}
+
+fn ask_tied(book: &[u8], group: u64, kind: u64, family: u64) -> Asked
+    ensures { λ a. ⌜ AskTied (now (book .entry)) group kind family a ⌝ }
+{
+    book::ask::ask(book, group, kind, family)
+}
+
+// There is nothing to do: its contract is that every statement has its theorem.
+fn promised()
+    ensures { λ _. ⌜ Promised ⌝ }
+{}

@@ -1,0 +1,42 @@
+-- `demands::promised` meets its contract: every statement has its theorem. Assumes nothing.
+use Rattle.demands.proofs.Demand1.{always-answered, one-answer, number-named, refusal-keeps}
+use Rattle.demands.proofs.Demand2.{calls-ruled, cells-counted, never-changed, never-unsound, findings-listed, lowest-id, book-of-days, totals-counted, fresh-is-blank, blank-carries-nothing, sanctions-found, findings-found, logs-ruled, always-read, file-of-days, logs-found}
+use Rattle.demands.proofs.Demand3.{nothing-lost, nothing-lost-in-logs}
+use Rattle.demands.proofs.Example.{why-three-or-five}
+use Rattle.demands.proofs.Starred.{starred-hold}
+use Rattle.demands.proofs.Worked.{worked, refusals}
+use Rattle.demands.proofs.promised.Statement.{statement}
+use Rattle.demands.proofs.promised.Tie as tie
+
+returns : tie.Need-returns
+returns c = record {
+  always-answered = always-answered;
+  one-answer = one-answer;
+  number-named = number-named;
+  refusal-keeps = refusal-keeps;
+  calls-ruled = calls-ruled;
+  cells-counted = cells-counted;
+  never-changed = never-changed;
+  never-unsound = never-unsound;
+  findings-listed = findings-listed;
+  lowest-id = lowest-id;
+  book-of-days = book-of-days;
+  totals-counted = totals-counted;
+  fresh-is-blank = fresh-is-blank;
+  blank-carries-nothing = blank-carries-nothing;
+  sanctions-found = sanctions-found;
+  findings-found = findings-found;
+  logs-ruled = logs-ruled;
+  always-read = always-read;
+  file-of-days = file-of-days;
+  logs-found = logs-found;
+  nothing-lost = nothing-lost;
+  nothing-lost-in-logs = nothing-lost-in-logs;
+  why-three-or-five = why-three-or-five;
+  starred-hold = starred-hold;
+  worked = worked;
+  refusals = refusals;
+}
+
+pub promised-spec : {M : Type 1} → statement M
+promised-spec = tie.close (tie.spec returns)

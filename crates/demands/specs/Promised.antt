@@ -1,0 +1,41 @@
+-- Every statement of demands 1 to 3, the starred table and the examples, as one record: a function of src/lib.rt has it for its
+-- contract, so that a theorem that goes fails the gate.
+use Rattle.demands.specs.Demand1.{AlwaysAnswered, OneAnswer, NumberNamed, RefusalKeeps}
+use Rattle.demands.specs.Demand2.{CallsRuled, CellsCounted, NeverChanged, NeverUnsound, FindingsListed, LowestId, BookOfDays, TotalsCounted, FreshIsBlank, BlankCarriesNothing, SanctionsFound, FindingsFound, LogsRuled, AlwaysRead, FileOfDays, LogsFound}
+use Rattle.demands.specs.Demand3.{NothingLost, NothingLostInLogs}
+use Rattle.demands.specs.Example.{WhyThreeOrFive}
+use Rattle.demands.specs.Starred.{Starred}
+use Rattle.demands.specs.Worked.{Worked, Refusals}
+
+pub record Promised : Type 0 where
+  -- demand 1
+  pub always-answered : AlwaysAnswered
+  pub one-answer : OneAnswer
+  pub number-named : NumberNamed
+  pub refusal-keeps : RefusalKeeps
+  -- demand 2, over lists of calls
+  pub calls-ruled : CallsRuled
+  pub cells-counted : CellsCounted
+  pub never-changed : NeverChanged
+  pub never-unsound : NeverUnsound
+  pub findings-listed : FindingsListed
+  pub lowest-id : LowestId
+  pub book-of-days : BookOfDays
+  pub totals-counted : TotalsCounted
+  pub fresh-is-blank : FreshIsBlank
+  pub blank-carries-nothing : BlankCarriesNothing
+  pub sanctions-found : SanctionsFound
+  pub findings-found : FindingsFound
+  -- and over day logs
+  pub logs-ruled : LogsRuled
+  pub always-read : AlwaysRead
+  pub file-of-days : FileOfDays
+  pub logs-found : LogsFound
+  -- demand 3, over lists of calls and over day logs
+  pub nothing-lost : NothingLost
+  pub nothing-lost-in-logs : NothingLostInLogs
+  pub why-three-or-five : WhyThreeOrFive
+  -- the starred table, and the worked example
+  pub starred-hold : Starred
+  pub worked : Worked
+  pub refusals : Refusals

@@ -29,22 +29,19 @@ use Rattle.desk.specs.Findings.{findings, bookAfter, foundCount}
 use Rattle.desk.specs.End.{inCells, endFault}
 use Rattle.desk.proofs.OpenLaws.{room-there}
 use Rattle.demands.specs.Counts.{timesOn}
-use Rattle.demands.specs.Calls.{Step, Reply, moved, ended, Desk, Given, stateAfter, logAfter, endState, Gives, fresh-gives, open-gives, take-gives, end-gives, abandon-gives, ask-gives, lend-gives, Ran, none, next, left}
+use Rattle.demands.specs.Calls.{Step, Reply, moved, ended, Desk, deskOf, Given, stateAfter, logAfter, endState, Gives, fresh-gives, open-gives, take-gives, end-gives, abandon-gives, ask-gives, lend-gives, Ran, none, next, left}
 use Rattle.demands.specs.Paper.{Course, idle, during, Paper, Ruled, dayIn, takeNumber, endRefusal, openRuled, takeRuled, endRuled, rule, rules, paperAfter}
 use Rattle.demands.specs.Demand2.{Seen, seen, ruled, begun}
 use Rattle.demands.proofs.DayLaws.{Agrees, agrees-open, agrees-take, raised-room, zeroed-length, take-is, end-is, count-is, book-is, findings-are}
-
-abbrev pub desk : State → (log counts book out : List ℕ) → Desk
-desk state log counts book out = record { state = state; log = log; counts = counts; book = book; out = out }
 
 abbrev pub paper : Course → (book out : List ℕ) → ℕ → Paper
 paper course book out room = record { course = course; book = book; out = out; room = room }
 
 -- no day is open; or one is, and its cells are the times of its records
 pub data Stands : Desk → Paper → Type 0 where
-  rest : {held c book out : List ℕ} {room : ℕ} → length c ≡ room → Stands (desk Closed held c book out) (paper idle book out room)
+  rest : {held c book out : List ℕ} {room : ℕ} → length c ≡ room → Stands (deskOf Closed held c book out) (paper idle book out room)
   busy : {log c book out : List ℕ} {rs : List Record} {room : ℕ} → length c ≡ room → Agrees log rs c
-      → Stands (desk (Open (dayIn log rs)) log c book out) (paper (during log rs) book out room)
+      → Stands (deskOf (Open (dayIn log rs)) log c book out) (paper (during log rs) book out room)
 
 pub stands-book : {w : Desk} {p : Paper} → Stands w p → w .book ≡ p .book
 stands-book (rest n) = refl
@@ -56,7 +53,7 @@ stands-out (busy n a) = refl
 
 -- a desk on which no day is open stands so
 pub begins : (w : Desk) → w .state ≡ Closed → Stands w (begun w)
-begins w e = subst (λ (s : State). Stands (desk s (w .log) (w .counts) (w .book) (w .out)) (begun w)) (sym e) (rest refl)
+begins w e = subst (λ (s : State). Stands (deskOf s (w .log) (w .counts) (w .book) (w .out)) (begun w)) (sym e) (rest refl)
 
 pub record Same (g : Given) (r : Ruled) : Type 0 where
   pub reply : g .reply ≡ r .reply
@@ -72,7 +69,7 @@ handed-parts log book room e =
 open-step : (log₀ log c book out : List ℕ) (room : ℕ) → length c ≡ room → Same
     (record {
       reply = moved (answered (openFault Closed log book c) (Open (dayOf log)));
-      after = desk (stateAfter Closed (answered (openFault Closed log book c) (Open (dayOf log))))
+      after = deskOf (stateAfter Closed (answered (openFault Closed log book c) (Open (dayOf log))))
           (logAfter log₀ log (answered (openFault Closed log book c) (Open (dayOf log)))) (pick (eqb (openFault Closed log book c) 0) (zeroed c) c) book out;
     })
     (openRuled (paper idle book out room) log (handedFault log book room))
@@ -82,7 +79,7 @@ open-step log₀ log c book out room n = rw (← n) (go (handedFault log book (l
     go : (fault : ℕ) (t : Bool) → handedFault log book (length c) ≡ fault → eqb fault 0 ≡ t → Same
         (record {
           reply = moved (pick t (Done (Open (dayOf log))) (Refused fault));
-          after = desk (stateAfter Closed (pick t (Done (Open (dayOf log))) (Refused fault)))
+          after = deskOf (stateAfter Closed (pick t (Done (Open (dayOf log))) (Refused fault)))
               (logAfter log₀ log (pick t (Done (Open (dayOf log))) (Refused fault))) (pick t (zeroed c) c) book out;
         })
         (record { reply = moved (pick t (Done (Open (dayIn log []))) (Refused fault)); after = pick t (paper (during log []) book out (length c)) (paper idle book out (length c)) })
@@ -100,7 +97,7 @@ no-record-fault log rs row e = or-none (tableFault (tablesOf log) (recordOf row)
 take-step : (log c book out : List ℕ) (rs : List Record) (row : List ℕ) (room : ℕ) → length c ≡ room → Agrees log rs c → Same
     (record {
       reply = moved (answered (takeFault (Open (dayIn log rs)) log row c) (Open (oneMore (dayIn log rs))));
-      after = desk (stateAfter (Open (dayIn log rs)) (answered (takeFault (Open (dayIn log rs)) log row c) (Open (oneMore (dayIn log rs))))) log
+      after = deskOf (stateAfter (Open (dayIn log rs)) (answered (takeFault (Open (dayIn log rs)) log row c) (Open (oneMore (dayIn log rs))))) log
           (pick (eqb (takeFault (Open (dayIn log rs)) log row c) 0) (raised (planOf (tablesOf log) (recordOf row)) c) c) book out;
     })
     (takeRuled (paper (during log rs) book out room) log rs row (takeNumber log rs row))
@@ -110,7 +107,7 @@ take-step log c book out rs row room n a = rw (take-is log rs c a row) (go (take
     go : (fault : ℕ) (t : Bool) → takeNumber log rs row ≡ fault → eqb fault 0 ≡ t → Same
         (record {
           reply = moved (pick t (Done (Open (oneMore (dayIn log rs)))) (Refused fault));
-          after = desk (stateAfter (Open (dayIn log rs)) (pick t (Done (Open (oneMore (dayIn log rs)))) (Refused fault))) log
+          after = deskOf (stateAfter (Open (dayIn log rs)) (pick t (Done (Open (oneMore (dayIn log rs)))) (Refused fault))) log
               (pick t (raised (planOf (tablesOf log) (recordOf row)) c) c) book out;
         })
         (record {
@@ -127,7 +124,7 @@ take-step log c book out rs row room n a = rw (take-is log rs c a row) (go (take
 end-step : (log c book out : List ℕ) (rs : List Record) (row : List ℕ) (room : ℕ) → length c ≡ room → Agrees log rs c → Same
     (record {
       reply = ended (pick (eqb (endFault (Open (dayIn log rs)) log row book c out) 0) (EndDone Closed (foundCount (tablesOf log) (inCells c))) (EndRefused (endFault (Open (dayIn log rs)) log row book c out)));
-      after = desk (endState (Open (dayIn log rs)) (pick (eqb (endFault (Open (dayIn log rs)) log row book c out) 0) (EndDone Closed (foundCount (tablesOf log) (inCells c))) (EndRefused (endFault (Open (dayIn log rs)) log row book c out)))) log c
+      after = deskOf (endState (Open (dayIn log rs)) (pick (eqb (endFault (Open (dayIn log rs)) log row book c out) 0) (EndDone Closed (foundCount (tablesOf log) (inCells c))) (EndRefused (endFault (Open (dayIn log rs)) log row book c out)))) log c
           (pick (eqb (endFault (Open (dayIn log rs)) log row book c out) 0) (bookAfter (tablesOf log) (headerOf log .date) book (inCells c)) book)
           (pick (eqb (endFault (Open (dayIn log rs)) log row book c out) 0) (put out 0 (findings (tablesOf log) (headerOf log .date) book (inCells c))) out);
     })
@@ -140,7 +137,7 @@ end-step log c book out rs row room n a =
     go : (fault : ℕ) (t : Bool) → eqb fault 0 ≡ t → Same
         (record {
           reply = ended (pick t (EndDone Closed (foundCount (tablesOf log) (timesOn (tablesOf log) rs))) (EndRefused fault));
-          after = desk (endState (Open (dayIn log rs)) (pick t (EndDone Closed (foundCount (tablesOf log) (timesOn (tablesOf log) rs))) (EndRefused fault))) log c
+          after = deskOf (endState (Open (dayIn log rs)) (pick t (EndDone Closed (foundCount (tablesOf log) (timesOn (tablesOf log) rs))) (EndRefused fault))) log c
               (pick t (bookAfter (tablesOf log) (headerOf log .date) book (timesOn (tablesOf log) rs)) book)
               (pick t (put out 0 (findings (tablesOf log) (headerOf log .date) book (timesOn (tablesOf log) rs))) out);
         })

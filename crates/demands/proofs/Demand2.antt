@@ -1,8 +1,8 @@
 -- Demand 2: the theorems to specs/Demand2. Assumes nothing.
-use mathlib.Core.Path.{_≡_, refl, sym, ap, ap₂, _∙_, subst}
+use mathlib.Core.Path.{_≡_, refl, sym, ap, _∙_, subst}
 use mathlib.Core.Logic.{_⊎_, inl, inr}
 use mathlib.Core.Bool.{Bool, true, false}
-use mathlib.Core.List.{List, [], _∷_, map, _++_}
+use mathlib.Core.List.{List, [], _∷_, _++_}
 use Prim.Native.Nat.{ℕ}
 use native.Mathlib.Omega.{arith}
 use borrow.Author.Tests.{eqb-true, eq-eqb, le-leb}
@@ -23,11 +23,11 @@ use Rattle.desk.specs.Open.{bookFault, handedFault}
 use Rattle.desk.specs.Findings.{foundAt, findings}
 use Rattle.desk.specs.End.{rowFault}
 use Rattle.demands.specs.Counts.{timesOn}
-use Rattle.demands.specs.Days.{Ended, endedDay, totalOver, bookOver, foundOn, blank}
-use Rattle.demands.specs.Calls.{Step, makeBook, openDay, takeRecord, endDay, abandonDay, askBook, lendFindings, Reply, numberIn, Desk, Given, Gives, Ran, none, next, left}
-use Rattle.demands.specs.Paper.{idle, during, Paper, dayIn, endRefusal, endRuled, openRuled, takeRuled, rule, rules, paperAfter}
+use Rattle.demands.specs.Days.{Ended, endedDay, totalOver, foundOn, blank}
+use Rattle.demands.specs.Calls.{Step, makeBook, openDay, takeRecord, endDay, abandonDay, askBook, lendFindings, numberIn, Desk, Given, Gives, Ran, none, next, left}
+use Rattle.demands.specs.Paper.{during, Paper, dayIn, endRefusal, endRuled, openRuled, takeRuled, rule, paperAfter}
 use Rattle.demands.specs.Logs.{front, rowsOf, recordsIn, logNumber, dayBook, ruledFile, Judged, JudgesAll, ruledLogs}
-use Rattle.demands.specs.Demand2.{begun, CallsRuled, CellsCounted, None, none as nothing, more, NeverChanged, SoundRun, NeverUnsound, FindingsListed, LowestId, History, recorded, history, since, BookOfDays, TotalsCounted, FreshIsBlank, BlankCarriesNothing, SanctionsFound, Found, FindingsFound, LogsRuled, AlwaysRead, logDays, lastFile, FileOfDays, LogsFound}
+use Rattle.demands.specs.Demand2.{begun, CallsRuled, CellsCounted, None, none as nothing, more, NeverChanged, SoundRun, NeverUnsound, FindingsListed, LowestId, History, recorded, history, since, BookOfDays, TotalsCounted, FreshIsBlank, BlankCarriesNothing, SanctionsFound, FindingsFound, LogsRuled, AlwaysRead, loggedDay, logDays, lastFile, FileOfDays, LogsFound}
 use Rattle.demands.proofs.CallLaws.{Stands, rest, busy, step, stands-book, begins, runs-read, runs-stand, handed-parts, paper}
 use Rattle.demands.proofs.LentLaws.{cells-counted as counted}
 use Rattle.demands.proofs.ListedLaws.{findings-list}
@@ -270,7 +270,7 @@ kept-pick true from days₁ days book₁ book y n = y refl
 kept-pick false from days₁ days book₁ book y n = n
 
 log-kept : (from : List ℕ) (days : List Ended) (book log : List ℕ) → Kept from days book
-    → Kept from (pick (eqb (logNumber book log) 0) (endedDay (front log) (recordsIn [] (rowsOf log)) ∷ days) days) (ruledFile book log)
+    → Kept from (pick (eqb (logNumber book log) 0) (loggedDay log ∷ days) days) (ruledFile book log)
 unfolding ruledFile logNumber
 log-kept from days book log k =
     kept-pick (eqb (logNumber book log) 0) from _ days (dayBook book log) book

@@ -1,7 +1,7 @@
 -- Demand 3: the theorems to specs/Demand3. Assumes nothing.
-use mathlib.Core.Path.{_≡_, refl, sym, ap, ap₂, _∙_, subst}
+use mathlib.Core.Path.{_≡_, sym, ap, _∙_}
 use mathlib.Core.Bool.{true}
-use mathlib.Core.List.{List, [], _∷_, map}
+use mathlib.Core.List.{List, [], map}
 use Prim.Native.Nat.{ℕ, _≤_, _<_}
 use native.Mathlib.Omega.{arith}
 use Rattle.book.specs.Sound.{sound}
@@ -10,17 +10,16 @@ use Rattle.demands.specs.Counts.{timesOf}
 use Rattle.demands.specs.Days.{blank}
 use Rattle.demands.specs.Calls.{Step, numberIn, Desk, Given, Ran, none as no-step, next, left}
 use Rattle.demands.specs.Paper.{Course, idle, Paper, numbersOn}
-use Rattle.demands.specs.Logs.{Judged, ruledLogs}
 use Rattle.demands.specs.Lent.{HasCell, cellIn, CountsHold}
-use Rattle.demands.specs.Demand2.{Seen, begun, SoundRun, History, since, logDays, lastFile}
+use Rattle.demands.specs.Demand2.{Seen, begun, SoundRun, History, since}
 use Rattle.demands.specs.Join.{joinLog, between}
-use Rattle.demands.specs.Demand3.{Two, Added, YearJoined, Accepted, none, more, Fair, accepted as was-accepted, roomy as was-roomy, FreshRun, Run, CellsAdded, numbers, RunJoined, NothingLost, LogsJoined, NothingLostInLogs}
+use Rattle.demands.specs.Demand3.{Two, Added, Accepted, none, more, Fair, accepted as was-accepted, roomy as was-roomy, FreshRun, Run, CellsAdded, numbers, NothingLost, NothingLostInLogs}
 use Rattle.demands.proofs.CallLaws.{Stands, step, stands-book, begins, runs-read}
 use Rattle.demands.proofs.NumberLaws.{number-is}
-use Rattle.demands.proofs.TotalLaws.{kept-none, blank-sound, blank-carries}
+use Rattle.demands.proofs.TotalLaws.{kept-none, blank-sound}
 use Rattle.demands.proofs.Demand2.{one-of, sound-run, logs-ruled, cells-counted}
 use Rattle.demands.proofs.JoinTables.{joined-log}
-use Rattle.demands.proofs.JoinYears.{Years, years-fresh, times-join, year-joined}
+use Rattle.demands.proofs.JoinYears.{years-fresh, times-join, year-joined}
 use Rattle.demands.proofs.JoinRun.{AcceptedBy, Fits, accepted, roomy, Twin, both-idle, both-open, Beside, Runs, runs}
 use Rattle.demands.proofs.JoinLogs.{files}
 
@@ -45,7 +44,7 @@ module _ (a b : ℕ) (two : Two a b) (n n′ m m′ : (group kind place : ℕ) �
     frequent = λ place h. omega (arith, q .frequent place h, at-a 2 place (omega arith) (omega arith) h, at-b 2 place (omega arith) (omega arith) h, after 2 place (omega arith) (omega arith) h);
     over = λ place h. omega (arith, q .over place h, at-a 3 place (omega arith) (omega arith) h, at-b 3 place (omega arith) (omega arith) h, after 3 place (omega arith) (omega arith) h);
     none-left = λ kind place h. e′ a kind place h ∙ q .none-left kind place h;
-    others = λ group kind place h x y. e′ group kind place h ∙ q .others group kind place h x y ∙ sym (e group kind place h);
+    others = λ group kind place h o. e′ group kind place h ∙ q .others group kind place h o ∙ sym (e group kind place h);
   }
     where
       at-a : (kind place : ℕ) → 1 ≤ kind → kind ≤ 3 → place < 32 → m a kind place ≡ n a kind place

@@ -19,9 +19,9 @@ use Rattle.daylog.specs.Header.{headerOf, contractsPart, logFault}
 use Rattle.daylog.specs.Tables.{tablesIn, tablesOf}
 use Rattle.daylog.proofs.FaultLaws.{log-sound}
 use Rattle.desk.specs.Offences.{lowestOn}
-use Rattle.demands.specs.Counts.{timesOn}
+use Rattle.demands.specs.Counts.{timesOn, reachesAt}
 use Rattle.demands.specs.Demand2.{LowestId}
-use Rattle.demands.proofs.ListedLaws.{reaches, lowest-is}
+use Rattle.demands.proofs.ListedLaws.{lowest-is}
 
 -- ---- a contract of a later place has a higher id
 id-above : (rulebook before : ℕ) (e : Contract) → contractGood rulebook before e ≡ true → before < e .id
@@ -55,4 +55,4 @@ lowest-id log rs ladder place e there lower =
     let t = tablesOf log in
     let lowest = lowestOn t (timesOn t rs) ladder in
     let before : place < lowest = lt-of-not-le (λ (l : lowest ≤ place). omega (arith, ids-rise log e lowest place l there)) in
-    first-below (reaches t rs ladder) (t .contracts) place (omega (arith, lowest-is t rs ladder))
+    first-below (reachesAt t rs ladder) (t .contracts) place (omega (arith, lowest-is t rs ladder))

@@ -1,6 +1,6 @@
 -- Day logs as the clerk reads them, and the same files with two groups joined in their tables: each gets the same number, and
 -- the days and the books' files go on side by side. Assumes nothing.
-use mathlib.Core.Path.{_≡_, refl, sym, ap, ap₂, _∙_}
+use mathlib.Core.Path.{_≡_, refl, ap, ap₂, _∙_}
 use mathlib.Core.Bool.{Bool, true, false, not}
 use mathlib.Core.List.{List, [], _∷_, map}
 use Prim.Native.Nat.{ℕ}
@@ -10,18 +10,15 @@ use lib.ListN.{length}
 use Rattle.wire.specs.Choice.{pick, orElse}
 use Rattle.wire.proofs.ChoiceLaws.{or-none, or-after}
 use Rattle.daylog.specs.declared.record.Record.{Record}
-use Rattle.daylog.specs.Header.{headerOf, logFault}
+use Rattle.daylog.specs.Header.{logFault}
 use Rattle.daylog.specs.Records.{recordOf}
-use Rattle.daylog.specs.Tables.{tablesOf}
 use Rattle.desk.specs.Cells.{cells}
-use Rattle.desk.specs.Open.{bookFault, handedFault}
-use Rattle.desk.specs.Findings.{bookAfter}
+use Rattle.desk.specs.Open.{handedFault}
 use Rattle.desk.specs.End.{rowFault}
-use Rattle.demands.specs.Counts.{timesOn}
-use Rattle.demands.specs.Days.{Ended, endedDay}
-use Rattle.demands.specs.Paper.{dayIn, takeNumber}
-use Rattle.demands.specs.Logs.{front, rowsOf, isEnd, recordsIn, followFault, rowsNumber, logNumber, dayBook, ruledFile, Judged, ruledLogs}
-use Rattle.demands.specs.Demand2.{History, logDays, lastFile}
+use Rattle.demands.specs.Days.{Ended}
+use Rattle.demands.specs.Paper.{dayIn}
+use Rattle.demands.specs.Logs.{front, rowsOf, isEnd, recordsIn, followFault, rowsNumber, logNumber, dayBook, ruledFile, ruledLogs}
+use Rattle.demands.specs.Demand2.{History, loggedDay, logDays, lastFile}
 use Rattle.demands.specs.Join.{joinLog}
 use Rattle.demands.specs.Demand3.{Two}
 use Rattle.demands.proofs.CallLaws.{handed-parts}
@@ -65,24 +62,18 @@ module _ (a b : ℕ) (two : Two a b) where
         ap₂ (λ (l : List ℕ) (rows : List (List ℕ)). rowsNumber l [] rows) (front-joined a b log (two .first-a)) (rows-joined a b log (two .first-a) e)
         ∙ rows-same (front log) e [] (rowsOf log))
 
-    abbrev records : List ℕ → List Record
-    records x = recordsIn [] (rowsOf x)
-
-    abbrev dayIs : List ℕ → Ended
-    dayIs x = endedDay (front x) (records x)
-
     -- an accepted log is a day more in both
     day-more : logNumber book log ≡ 0
-        → Years a b (on from (dayIs log ∷ days)) (on from′ (dayIs (joinLog a b log) ∷ days′)) (dayBook book log) (dayBook book′ (joinLog a b log))
+        → Years a b (on from (loggedDay log ∷ days)) (on from′ (loggedDay (joinLog a b log) ∷ days′)) (dayBook book log) (dayBook book′ (joinLog a b log))
     unfolding logNumber
     day-more z =
         let q = handed-parts (front log) book cells (or-none (handedFault (front log) book cells) _ z .0) in
         rw (front-joined a b log (two .first-a), rows-joined a b log (two .first-a) (q .0))
-        (years-day a b two _ _ book book′ s (front log) (records log) (q .0) (q .1))
+        (years-day a b two _ _ book book′ s (front log) (recordsIn [] (rowsOf log)) (q .0) (q .1))
 
     log-years : Years a b
-        (on from (pick (eqb (logNumber book log) 0) (dayIs log ∷ days) days))
-        (on from′ (pick (eqb (logNumber book′ (joinLog a b log)) 0) (dayIs (joinLog a b log) ∷ days′) days′))
+        (on from (pick (eqb (logNumber book log) 0) (loggedDay log ∷ days) days))
+        (on from′ (pick (eqb (logNumber book′ (joinLog a b log)) 0) (loggedDay (joinLog a b log) ∷ days′) days′))
         (ruledFile book log) (ruledFile book′ (joinLog a b log))
     unfolding ruledFile
     log-years = rw number-same (years-pick (eqb (logNumber book log) 0) _ days _ days′ _ book _ book′ (λ e. day-more (eqb-true _ 0 e)) s)

@@ -25,18 +25,17 @@ use Rattle.desk.specs.Findings.{findings, bookAfter, foundCount}
 use Rattle.desk.specs.End.{rowFault}
 use Rattle.desk.proofs.OpenLaws.{room-there}
 use Rattle.demands.specs.Counts.{timesOn}
-use Rattle.demands.specs.Days.{endedDay, blank}
+use Rattle.demands.specs.Days.{blank}
 use Rattle.demands.specs.Calls.{Step, makeBook, openDay, takeRecord, endDay, abandonDay, askBook, lendFindings}
 use Rattle.demands.specs.Paper.{Course, idle, during, Paper, dayIn, takeNumber, endRefusal, at, resting, openRuled, takeRuled, endRuled, rule, rules, numbersOn, paperAfter}
 use Rattle.demands.specs.Lent.{latest, lastOpened}
 use Rattle.demands.specs.Demand2.{History, recorded, history}
 use Rattle.demands.specs.Join.{joinLog}
-use Rattle.demands.specs.Demand3.{Two, StepJoined, makes, opens, takes, ends, abandons, asks, lends, StepsJoined, none, more, Roomy, none as no-lent, more as more-lent}
-use Rattle.demands.proofs.CallLaws.{handed-parts}
+use Rattle.demands.specs.Demand3.{Two, StepJoined, makes, opens, takes, ends, abandons, asks, lends, StepsJoined, none, more, Roomy, more as more-lent}
+use Rattle.demands.proofs.CallLaws.{paper, handed-parts}
 use Rattle.demands.proofs.ListedLaws.{findings-list}
 use Rattle.demands.proofs.NumberLaws.{refusal, number-is}
 use Rattle.demands.proofs.LogLaws.{found-fits}
-use Rattle.demands.proofs.TotalLaws.{Kept, kept-none, blank-sound}
 use Rattle.demands.proofs.Demand2.{Holds, holds-fresh, recorded-end, kept-fresh}
 use Rattle.demands.proofs.JoinTables.{joined-log}
 use Rattle.demands.proofs.JoinCounts.{fault-joined}
@@ -175,9 +174,6 @@ move : {a b : ℕ} {p q p′ q′ : Paper} {h i h′ i′ : History} → p ≡ q
 move {a} {b} {p} {q} {p′} {q′} {h} {i} {h′} {i′} e e′ f f′ s =
     subst (λ (x : Paper). Beside a b x q′ i i′) e
     (subst (λ (x : Paper). Beside a b p x i i′) e′ (subst (λ (x : History). Beside a b p p′ x i′) f (subst (λ (x : History). Beside a b p p′ h x) f′ s)))
-
-abbrev paper : Course → (book out : List ℕ) → ℕ → Paper
-paper course book out room = record { course = course; book = book; out = out; room = room }
 
 module _ (a b : ℕ) (two : Two a b) where
   -- ---- the numbers

@@ -1,10 +1,10 @@
 -- The days of a run and of the same run with two groups joined, with their books: what the books say is the same but for the
 -- two groups, a day more goes into both, and nothing is lost. Assumes nothing.
-use mathlib.Core.Path.{_≡_, refl, sym, ap, ap₂, _∙_, subst}
+use mathlib.Core.Path.{_≡_, refl, sym, ap, ap₂, _∙_}
 use mathlib.Core.Logic.{_⊎_, inl, inr}
 use mathlib.Core.Bool.{Bool, true, false, not, _&&_}
 use mathlib.Core.List.{List, [], _∷_}
-use Prim.Native.Nat.{ℕ, zero, suc, _+_, _/_, _≤_, _<_, zero-le}
+use Prim.Native.Nat.{ℕ, zero, suc, _+_, _≤_, _<_, zero-le}
 use native.Mathlib.Omega.{arith}
 use lib.Dec.{leb, eqb}
 use lib.ListN.{length}
@@ -25,8 +25,7 @@ use Rattle.demands.specs.Counts.{howMany, timesOf, timesOn, offence}
 use Rattle.demands.specs.Days.{Ended, endedDay, lastOn, carried, totalOver, offenceOn, offenceDays, blank}
 use Rattle.demands.specs.Demand2.{History}
 use Rattle.demands.specs.Join.{joinLog, Joined, between}
-use Rattle.demands.specs.Restrictions.{restrictions}
-use Rattle.demands.specs.Demand3.{Two, Added, DayJoined, DaysJoined, none, more, InYear, NoFewer, YearJoined}
+use Rattle.demands.specs.Demand3.{Two, Other, Added, DayJoined, DaysJoined, none, more, InYear, NoFewer, YearJoined}
 use Rattle.demands.proofs.TotalLaws.{OfRulebook, Kept, kept-day, ready, blank-carries}
 use Rattle.demands.proofs.Demand2.{Holds}
 use Rattle.demands.proofs.JoinTables.{joined-log}
@@ -41,7 +40,7 @@ times-join a b two t t′ rs j = record {
   frequent = λ place h. times-added a b t t′ j (two .first-a) (two .differ) rs 2 place (λ e. omega arith);
   over = λ place h. times-added a b t t′ j (two .first-a) (two .differ) rs 3 place (λ e. omega arith);
   none-left = λ kind place h. times-none a b t t′ j (two .first-a) (two .differ) rs kind place;
-  others = λ group kind place h. times-other a b t t′ j (two .first-a) (two .differ) rs group kind place;
+  others = λ group kind place h o. times-other a b t t′ j (two .first-a) (two .differ) rs group kind place (o .not-a) (o .not-b);
 }
 
 -- ---- the days of the two runs
@@ -79,12 +78,12 @@ days-none a b from y l h (more {d} {d′} j rest) =
     omega (arith, days-none a b from y l h rest)
 
 -- another group's ladder has the same
-module _ (a b : ℕ) (two : Two a b) (from : List ℕ) (y l : ℕ) (not-a : groupAt l ≡ a → ⊥) (not-b : groupAt l ≡ b → ⊥) where
+module _ (a b : ℕ) (two : Two a b) (from : List ℕ) (y l : ℕ) (o : Other a b (groupAt l)) where
   day-other : (d d′ : Ended) → d′ .records ≡ d .records → Joined a b (d .tables) (d′ .tables) → offenceOn l d′ ≡ offenceOn l d
   unfolding offenceOn
   day-other d d′ records tables =
       ap (λ rs. offence (d′ .tables) rs (groupAt l) (kindAt l) (familyAt l)) records
-      ∙ offence-other a b (d .tables) (d′ .tables) tables (two .first-a) (two .differ) (d .records) (groupAt l) (kindAt l) (familyAt l) not-a not-b
+      ∙ offence-other a b (d .tables) (d′ .tables) tables (two .first-a) (two .differ) (d .records) (groupAt l) (kindAt l) (familyAt l) (o .not-a) (o .not-b)
 
   days-other : {days days′ : List Ended} → DaysJoined a b from days days′ → offenceDays y l days′ ≡ offenceDays y l days
   unfolding offenceDays howMany
@@ -143,9 +142,9 @@ module _ (a b : ℕ) (two : Two a b) (h h′ : History) (book book′ : List ℕ
       let e = joined-kept .total l less ∙ ap (λ (n : ℕ). totalOver (h .from) (year n) l (h′ .days)) (last-same (s .days)) in
       omega (arith, e, s .nothing lastYear l less)
 
-  pub total-same : (l : ℕ) → l < 6144 → (groupAt l ≡ a → ⊥) → (groupAt l ≡ b → ⊥) → totalAt book′ l ≡ totalAt book l
-  total-same l less not-a not-b =
-      joined-days l less ∙ days-other a b two (h .from) lastYear l not-a not-b (s .days) ∙ sym (total-days l less)
+  pub total-same : (l : ℕ) → l < 6144 → Other a b (groupAt l) → totalAt book′ l ≡ totalAt book l
+  total-same l less o =
+      joined-days l less ∙ days-other a b two (h .from) lastYear l o (s .days) ∙ sym (total-days l less)
 
   -- ---- a day more
   abbrev withDay : History → List ℕ → List Record → History
@@ -180,8 +179,8 @@ module _ (a b : ℕ) (two : Two a b) (h h′ : History) (book book′ : List ℕ
       tables = tables;
       added = times-join a b two t t′ rs tables;
       stays = stays;
-      others = λ l less not-a not-b. ap₂ (λ (d : ℕ) (x : List ℕ). foundAt t′ d x (timesOn t′ rs) l) (ap (λ (x : Header). x .date) head) (sym (joined-kept .is))
-          ∙ found-other a b t t′ tables (two .first-a) (two .differ) rs l not-a not-b date book book′ dates-same (total-same l less not-a not-b)
+      others = λ l less o. ap₂ (λ (d : ℕ) (x : List ℕ). foundAt t′ d x (timesOn t′ rs) l) (ap (λ (x : Header). x .date) head) (sym (joined-kept .is))
+          ∙ found-other a b t t′ tables (two .first-a) (two .differ) rs l (o .not-a) (o .not-b) date book book′ dates-same (total-same l less o)
           ∙ ap (λ (x : List ℕ). foundAt t date x (timesOn t rs) l) (s .kept .is);
       gone = λ l less is-a. found-none a b t t′ tables (two .first-a) (two .differ) rs l is-a _ _;
     }

@@ -14,14 +14,13 @@ use Rattle.wire.specs.Bytes.{bytes}
 use Rattle.wire.specs.Buffers.{rows}
 use Rattle.wire.proofs.KeptLaws.{part-at, kept-length, kept-at}
 use Rattle.wire.proofs.PlaceLaws.{first-below, first-some, Passes, Passed, count-below, count-rises, passed, first-passes}
-use Rattle.rules.specs.Ladders.{rung, sanction}
 use Rattle.book.specs.Layout.{ladders, ladderOf}
 use Rattle.daylog.specs.declared.record.Record.{Record}
 use Rattle.daylog.specs.Tables.{Tables}
 use Rattle.desk.specs.Offences.{groupAt, kindAt, familyAt, reachedAt, lowest, lowestOn, offendsOn}
-use Rattle.desk.specs.Findings.{finding, memberOn, totalAfter, foundAt, findings, foundCount}
-use Rattle.demands.specs.Counts.{timesOn, reachesOn, offence}
-use Rattle.demands.specs.Listed.{ladderIn, Names, Lowest, Lists}
+use Rattle.desk.specs.Findings.{finding, foundAt, findings, foundCount}
+use Rattle.demands.specs.Counts.{timesOn, reachesOn, offence, reachesAt, offenceAt}
+use Rattle.demands.specs.Listed.{ladderIn, Names, Lowest, findingOn, Lists}
 
 -- ---- a ladder's number and its group, kind and family
 ladder-of : (l : ℕ) → ladderOf (groupAt l) (kindAt l) (familyAt l) ≡ l
@@ -29,24 +28,21 @@ ladder-of l = omega arith
 
 -- ---- a ladder's offence, and the lowest contract that reached the number
 module _ (t : Tables) (rs : List Record) (ladder : ℕ) where
-  abbrev pub reaches : ℕ → Bool
-  reaches = reachesOn t rs (groupAt ladder) (kindAt ladder) (familyAt ladder)
-
-  pub lowest-is : lowestOn t (timesOn t rs) ladder ≡ first reaches (t .contracts)
+  pub lowest-is : lowestOn t (timesOn t rs) ladder ≡ first (reachesAt t rs ladder) (t .contracts)
   unfolding lowestOn lowest reachedAt reachesOn timesOn
   lowest-is = refl
 
-  pub offends-is : offendsOn t (timesOn t rs) ladder ≡ offence t rs (groupAt ladder) (kindAt ladder) (familyAt ladder)
+  pub offends-is : offendsOn t (timesOn t rs) ladder ≡ offenceAt t rs ladder
   unfolding offendsOn offence
-  offends-is = ap (λ (k : ℕ). ltb k (t .contracts)) lowest-is ∙ first-some reaches (t .contracts)
+  offends-is = ap (λ (k : ℕ). ltb k (t .contracts)) lowest-is ∙ first-some (reachesAt t rs ladder) (t .contracts)
 
   lowest-where : offendsOn t (timesOn t rs) ladder ≡ true → Lowest t rs ladder (lowestOn t (timesOn t rs) ladder)
   unfolding offendsOn
   lowest-where e =
       let there : lowestOn t (timesOn t rs) ladder < t .contracts = ltb-true _ _ e in record {
         there = there;
-        reaches = ap reaches lowest-is ∙ first-passes reaches (t .contracts) (omega (arith, lowest-is));
-        none-below = λ k l. first-below reaches (t .contracts) k (omega (arith, lowest-is));
+        reaches = ap (reachesAt t rs ladder) lowest-is ∙ first-passes (reachesAt t rs ladder) (t .contracts) (omega (arith, lowest-is));
+        none-below = λ k l. first-below (reachesAt t rs ladder) (t .contracts) k (omega (arith, lowest-is));
       }
 
 -- ---- the findings
@@ -67,13 +63,8 @@ module _ (t : Tables) (rs : List Record) (date : ℕ) (book : List ℕ) where
   abbrev hit : ℕ → Bool
   hit = offendsOn t (timesOn t rs)
 
-  abbrev total : ℕ → ℕ
-  total = totalAfter t date book (timesOn t rs)
-
   abbrev text : ℕ → List ℕ
-  text l =
-      finding l (sanction (t .rulebook) (rung (total l)) (memberOn t (groupAt l))) (total l)
-      (t .contract (lowestOn t (timesOn t rs) l) .id)
+  text = findingOn t rs date book
 
   abbrev listing : List ℕ
   listing = findings t date book (timesOn t rs)
@@ -109,7 +100,7 @@ module _ (t : Tables) (rs : List Record) (date : ℕ) (book : List ℕ) where
       }
 
   only : (ladder : ℕ) → Names listing (foundCount t (timesOn t rs)) ladder
-      → (ladder < ladders) × (offence t rs (groupAt ladder) (kindAt ladder) (familyAt ladder) ≡ true)
+      → (ladder < ladders) × (offenceAt t rs ladder ≡ true)
   only ladder q =
       let i : Passes hit ladders (q .at) (ladderIn listing (q .at)) = nth-offence (q .at) (q .there) in
       (omega (arith, i .below, q .named), sym (offends-is t rs ladder) ∙ ap hit (sym (q .named)) ∙ i .passes)

@@ -16,7 +16,7 @@ use Rattle.calendar.proofs.DateLaws.{real, year-rises}
 use Rattle.rules.specs.Ladders.{rung, sanction}
 use Rattle.book.specs.Layout.{headOf, bookOf, rulebookOf, lastDate, totalAt}
 use Rattle.book.specs.Sound.{sound}
-use Rattle.book.proofs.BookLaws.{Sound, sound-facts, sound-most, fresh-sound, rulebook-of-book, date-of-book, total-of-book}
+use Rattle.book.proofs.BookLaws.{Sound, sound-facts, fresh-sound, rulebook-of-book, date-of-book, total-of-book}
 use Rattle.daylog.specs.declared.record.Record.{Record}
 use Rattle.daylog.specs.Header.{headerOf, logFault}
 use Rattle.daylog.specs.Tables.{Tables, tablesOf}

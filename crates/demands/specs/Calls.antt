@@ -1,5 +1,5 @@
--- Any list of calls as customers make them: "each call is handed the state, tables, counts and book as the call before left
--- them". What a call gives is what its contract promises, and nothing else is known of it.
+-- Any list of calls as customers make them: "each call is handed the state, tables, counts and book as the call before
+-- left them". What a call gives is what its contract promises, and nothing else is known of it.
 use mathlib.Core.Path.{_≡_}
 use Prim.Native.Nat.{ℕ}
 use mathlib.Core.List.{List, [], _∷_}
@@ -54,6 +54,9 @@ pub record Desk : Type 0 where
   pub book : List ℕ
   pub out : List ℕ
 
+abbrev pub deskOf : State → (log counts book out : List ℕ) → Desk
+deskOf state log counts book out = record { state = state; log = log; counts = counts; book = book; out = out }
+
 -- the answer of a call, and what it leaves
 pub record Given : Type 0 where
   pub reply : Reply
@@ -74,38 +77,35 @@ endState old (EndRefused number) = old
 
 -- ---- what each may give, by its contract; a buffer that is not lent to it to write is as it was
 pub data Gives (w : Desk) : Step → Given → Type 0 where
-  fresh-gives : {rulebook : ℕ} {a : NewBook} {book : List ℕ} → FreshGives (w .book) rulebook a book
-      → Gives w (makeBook rulebook) (record {
-        reply = made a;
-        after = record { state = w .state; log = w .log; counts = w .counts; book = book; out = w .out };
-      })
-  open-gives : {log : List ℕ} {a : Answer} {counts : List ℕ} → OpenGives (w .state) log (w .book) (w .counts) a counts
-      → Gives w (openDay log) (record {
+  fresh-gives : {rulebook : ℕ} {a : NewBook} {book : List ℕ}
+      → FreshGives (w .book) rulebook a book
+      → Gives w (makeBook rulebook)
+      (record { reply = made a; after = deskOf (w .state) (w .log) (w .counts) book (w .out) })
+  open-gives : {log : List ℕ} {a : Answer} {counts : List ℕ}
+      → OpenGives (w .state) log (w .book) (w .counts) a counts
+      → Gives w (openDay log)
+      (record {
         reply = moved a;
-        after = record { state = stateAfter (w .state) a; log = logAfter (w .log) log a; counts = counts; book = w .book; out = w .out };
+        after = deskOf (stateAfter (w .state) a) (logAfter (w .log) log a) counts (w .book) (w .out);
       })
-  take-gives : {row : List ℕ} {a : Answer} {counts : List ℕ} → TakeGives (w .state) (w .log) row (w .counts) a counts
-      → Gives w (takeRecord row) (record {
-        reply = moved a;
-        after = record { state = stateAfter (w .state) a; log = w .log; counts = counts; book = w .book; out = w .out };
-      })
-  end-gives : {row : List ℕ} {a : Ended} {book out : List ℕ} → EndGives (w .state) (w .log) row (w .book) (w .counts) (w .out) a book out
-      → Gives w (endDay row) (record {
-        reply = ended a;
-        after = record { state = endState (w .state) a; log = w .log; counts = w .counts; book = book; out = out };
-      })
-  abandon-gives : {a : Answer} → a ≡ abandonAnswer (w .state)
-      → Gives w abandonDay (record {
-        reply = moved a;
-        after = record { state = stateAfter (w .state) a; log = w .log; counts = w .counts; book = w .book; out = w .out };
-      })
-  ask-gives : {group kind family : ℕ} {a : Asked} → a ≡ askAnswer (w .book) group kind family
+  take-gives : {row : List ℕ} {a : Answer} {counts : List ℕ}
+      → TakeGives (w .state) (w .log) row (w .counts) a counts
+      → Gives w (takeRecord row)
+      (record { reply = moved a; after = deskOf (stateAfter (w .state) a) (w .log) counts (w .book) (w .out) })
+  end-gives : {row : List ℕ} {a : Ended} {book out : List ℕ}
+      → EndGives (w .state) (w .log) row (w .book) (w .counts) (w .out) a book out
+      → Gives w (endDay row)
+      (record { reply = ended a; after = deskOf (endState (w .state) a) (w .log) (w .counts) book out })
+  abandon-gives : {a : Answer}
+      → a ≡ abandonAnswer (w .state)
+      → Gives w abandonDay
+      (record { reply = moved a; after = deskOf (stateAfter (w .state) a) (w .log) (w .counts) (w .book) (w .out) })
+  ask-gives : {group kind family : ℕ} {a : Asked}
+      → a ≡ askAnswer (w .book) group kind family
       → Gives w (askBook group kind family) (record { reply = told a; after = w })
   lend-gives : {out : List ℕ}
-      → Gives w (lendFindings out) (record {
-        reply = lent;
-        after = record { state = w .state; log = w .log; counts = w .counts; book = w .book; out = out };
-      })
+      → Gives w (lendFindings out)
+      (record { reply = lent; after = deskOf (w .state) (w .log) (w .counts) (w .book) out })
 
 -- a list of steps, one after the other, each on what the one before left
 pub data Ran : Desk → List Step → List Given → Type 0 where

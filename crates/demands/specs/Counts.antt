@@ -1,4 +1,4 @@
--- 01, "What counts", over a day's tables and its records: how often, for whom, on which contract. No cells and no steps.
+-- 01, "What counts", over a day's tables and its records: how often, for whom, on which contract. No cells, no steps.
 use Prim.Native.Nat.{ℕ, _+_}
 use mathlib.Core.Bool.{Bool, _&&_}
 use mathlib.Core.List.{List, [], _∷_}
@@ -9,7 +9,7 @@ use Rattle.rules.specs.Measure.{times, enough, reached}
 use Rattle.daylog.specs.declared.record.Record.{Record}
 use Rattle.daylog.specs.Tables.{Tables}
 use Rattle.desk.specs.Counting.{countsFor}
-use Rattle.desk.specs.Offences.{groupAt, kindAt, familyOf}
+use Rattle.desk.specs.Offences.{groupAt, kindAt, familyAt, familyOf}
 
 -- how many of a list pass the test
 unfoldable pub howMany : {A : Type 0} → (A → Bool) → List A → ℕ
@@ -29,6 +29,14 @@ unfoldable pub reachesOn : Tables → List Record → (group kind family place :
 reachesOn t rs group kind family place =
     eqb (familyOf t place) family && reached (times (timesOf t rs group kind place)) (enough (t .rulebook) kind)
 
--- 01, "Ladders": "A group has one offence of a kind in a family on a day if any contract of the family reaches the number."
+-- 01, "Ladders": "A group has one offence of a kind in a family on a day if any contract of the family reaches the
+-- number."
 unfoldable pub offence : Tables → List Record → (group kind family : ℕ) → Bool
 offence t rs group kind family = some (reachesOn t rs group kind family) (t .contracts)
+
+-- the same for each ladder's group, kind and family
+abbrev pub reachesAt : Tables → List Record → (ladder place : ℕ) → Bool
+reachesAt t rs ladder = reachesOn t rs (groupAt ladder) (kindAt ladder) (familyAt ladder)
+
+abbrev pub offenceAt : Tables → List Record → (ladder : ℕ) → Bool
+offenceAt t rs ladder = offence t rs (groupAt ladder) (kindAt ladder) (familyAt ladder)

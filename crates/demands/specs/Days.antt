@@ -9,9 +9,8 @@ use Rattle.book.specs.Layout.{bookOf, rulebookOf, lastDate, totalAt}
 use Rattle.daylog.specs.declared.record.Record.{Record}
 use Rattle.daylog.specs.Header.{headerOf}
 use Rattle.daylog.specs.Tables.{Tables, tablesOf}
-use Rattle.desk.specs.Offences.{groupAt, kindAt, familyAt}
 use Rattle.desk.specs.Findings.{foundAt}
-use Rattle.demands.specs.Counts.{howMany, timesOn, offence}
+use Rattle.demands.specs.Counts.{howMany, timesOf, timesOn, offence, offenceAt}
 
 -- a day that was ended: its date, its tables, the records that it took
 pub record Ended : Type 0 where
@@ -23,9 +22,16 @@ pub record Ended : Type 0 where
 abbrev pub endedDay : List ℕ → List Record → Ended
 endedDay log rs = record { date = headerOf log .date; tables = tablesOf log; records = rs }
 
+-- how many of its records count for a group and a kind on a contract; whether it was an offence
+abbrev pub timesIn : Ended → (group kind place : ℕ) → ℕ
+timesIn d = timesOf (d .tables) (d .records)
+
+abbrev pub offenceIn : Ended → (group kind family : ℕ) → Bool
+offenceIn d = offence (d .tables) (d .records)
+
 -- the day was an offence on a ladder
 unfoldable pub offenceOn : ℕ → Ended → Bool
-offenceOn ladder d = offence (d .tables) (d .records) (groupAt ladder) (kindAt ladder) (familyAt ladder)
+offenceOn ladder d = offenceAt (d .tables) (d .records) ladder
 
 -- how many days of a year were one
 unfoldable pub offenceDays : ℕ → ℕ → List Ended → ℕ
@@ -48,11 +54,13 @@ totalOver from y ladder days = carried from y ladder + offenceDays y ladder days
 -- the book as bytes: as it was where no day was ended, and else each total is that of the last day's year
 unfoldable pub bookOver : List ℕ → List Ended → List ℕ
 bookOver from [] = from
-bookOver from (d ∷ days) = bookOf (rulebookOf from) (d .date) (λ ladder. totalOver from (year (d .date)) ladder (d ∷ days))
+bookOver from (d ∷ days) =
+    bookOf (rulebookOf from) (d .date) (λ ladder. totalOver from (year (d .date)) ladder (d ∷ days))
 
 -- what a day adds to its findings for a ladder, as bytes, on the book of the days before it
 abbrev pub foundOn : List ℕ → Ended → List Ended → ℕ → List ℕ
-foundOn from d before ladder = foundAt (d .tables) (d .date) (bookOver from before) (timesOn (d .tables) (d .records)) ladder
+foundOn from d before ladder =
+    foundAt (d .tables) (d .date) (bookOver from before) (timesOn (d .tables) (d .records)) ladder
 
 -- a fresh book: no last date, and every total 0
 unfoldable pub blank : ℕ → List ℕ

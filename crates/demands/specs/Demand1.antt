@@ -1,6 +1,6 @@
--- Demand 1: "Each call ends with an answer whatever it is handed. A refusal gives the number the specification names, in the
--- order it names, and book, counts and findings stay exactly as they were." The statements; proofs/Demand1 has the theorems
--- under the same names.
+-- Demand 1: "Each call ends with an answer whatever it is handed. A refusal gives the number the specification names,
+-- in the order it names, and book, counts and findings stay exactly as they were." The statements; proofs/Demand1 has
+-- the theorems under the same names.
 use mathlib.Core.Path.{_≡_}
 use mathlib.Core.List.{List}
 use Prim.Native.Nat.{ℕ}
@@ -38,6 +38,6 @@ named w (lendFindings out) = 0
 abbrev pub NumberNamed : Type 0
 NumberNamed = (w : Desk) (c : Step) (g : Given) → Gives w c g → numberIn (g .reply) ≡ named w c
 
--- ---- "and book, counts and findings stay exactly as they were"; so do the state, and the tables of the day that is open
+-- ---- "and book, counts and findings stay exactly as they were"; so do the state and the tables of the open day
 abbrev pub RefusalKeeps : Type 0
 RefusalKeeps = (w : Desk) (c : Step) (g : Given) → Gives w c g → (numberIn (g .reply) ≡ 0 → ⊥) → g .after ≡ w

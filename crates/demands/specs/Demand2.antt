@@ -1,6 +1,7 @@
--- Demand 2: "Over any run of day logs that nobody else interferes with, findings, totals and sanctions are those of the exchanges'
--- texts as the specification condenses them; a finding is listed exactly when, on some contract, enough records that are not
--- exempt count for the group." The statements; proofs/Demand2 has the theorems under the same names.
+-- Demand 2: "Over any run of day logs that nobody else interferes with, findings, totals and sanctions are those of
+-- the exchanges' texts as the specification condenses them; a finding is listed exactly when, on some contract,
+-- enough records that are not exempt count for the group." The statements; proofs/Demand2 has the theorems under the
+-- same names.
 use mathlib.Core.Path.{_≡_}
 use mathlib.Core.Bool.{true, false}
 use mathlib.Core.List.{List, [], _∷_, map, _++_}
@@ -17,9 +18,9 @@ use Rattle.daylog.specs.declared.record.Record.{Record}
 use Rattle.daylog.specs.Header.{logFault}
 use Rattle.daylog.specs.Tables.{Tables, tablesOf}
 use Rattle.desk.specs.declared.state.State.the-variants.{Closed}
-use Rattle.desk.specs.Offences.{groupAt, kindAt, familyAt, lowestOn}
+use Rattle.desk.specs.Offences.{lowestOn}
 use Rattle.desk.specs.Findings.{findings, foundCount}
-use Rattle.demands.specs.Counts.{timesOn, reachesOn}
+use Rattle.demands.specs.Counts.{timesOn, reachesAt}
 use Rattle.demands.specs.Days.{Ended, endedDay, carried, totalOver, bookOver, foundOn, blank}
 use Rattle.demands.specs.Listed.{Lists}
 use Rattle.demands.specs.Calls.{Step, makeBook, openDay, takeRecord, endDay, abandonDay, askBook, lendFindings, Reply, numberIn, Desk, Given, Gives, Ran, left}
@@ -45,9 +46,10 @@ ruled r = record { reply = r .reply; book = r .after .book; out = r .after .out 
 abbrev pub begun : Desk → Paper
 begun w = record { course = idle; book = w .book; out = w .out; room = length (w .counts) }
 
--- every answer, every refusal's number, the findings and the book are those of the rules; for any book, any lengths of buffers
+-- every answer, every refusal's number, the findings and the book are those of the rules; for any book and buffers
 abbrev pub CallsRuled : Type 0
-CallsRuled = (w : Desk) (cs : List Step) (gs : List Given) → w .state ≡ Closed → Ran w cs gs → map seen gs ≡ map ruled (rules (begun w) cs)
+CallsRuled = (w : Desk) (cs : List Step) (gs : List Given) → w .state ≡ Closed → Ran w cs gs
+    → map seen gs ≡ map ruled (rules (begun w) cs)
 
 -- and the lent counts hold what the records of the day last opened count for
 abbrev pub CellsCounted : Type 0
@@ -78,9 +80,10 @@ FindingsListed = (t : Tables) (rs : List Record) (date : ℕ) (book : List ℕ)
 
 -- "the lowest contract id that reached the number": on sound tables no contract of the family with a lower id did
 abbrev pub LowestId : Type 0
-LowestId = (log : List ℕ) (rs : List Record) (ladder place : ℕ) → logFault log ≡ 0 → place < tablesOf log .contracts
-    → tablesOf log .contract place .id < tablesOf log .contract (lowestOn (tablesOf log) (timesOn (tablesOf log) rs) ladder) .id
-    → reachesOn (tablesOf log) rs (groupAt ladder) (kindAt ladder) (familyAt ladder) place ≡ false
+LowestId = (log : List ℕ) (rs : List Record) (ladder place : ℕ) → logFault log ≡ 0 →
+    let t = tablesOf log in
+    let found = lowestOn t (timesOn t rs) ladder in
+    place < t .contracts → t .contract place .id < t .contract found .id → reachesAt t rs ladder place ≡ false
 
 -- ---- the days of a run, on the book at its start
 -- the book that the days stand on, and the days ended since, the latest first
@@ -93,7 +96,8 @@ unfoldable pub recorded : Paper → Course → Step → History → History
 recorded p course (makeBook rulebook) h =
     pick (eqb (freshFault (length (p .book)) rulebook) 0) (record { from = blank rulebook; days = [] }) h
 recorded p (during log rs) (endDay row) h =
-    pick (eqb (endRefusal log rs row (p .book) (length (p .out))) 0) (record { from = h .from; days = endedDay log rs ∷ h .days }) h
+    pick (eqb (endRefusal log rs row (p .book) (length (p .out))) 0)
+    (record { from = h .from; days = endedDay log rs ∷ h .days }) h
 recorded p idle (endDay row) h = h
 recorded p course (openDay log) h = h
 recorded p course (takeRecord row) h = h
@@ -115,21 +119,24 @@ BookOfDays = (w : Desk) (cs : List Step) (gs : List Given) → SoundRun w cs gs
 
 -- each total is what was carried into the year, and that year's days, among those, that were an offence
 abbrev pub TotalsCounted : Type 0
-TotalsCounted = (w : Desk) (cs : List Step) (gs : List Given) → SoundRun w cs gs → (ladder : ℕ) → ladder < ladders
-    → totalAt (left w gs .book) ladder ≡ totalOver (since w cs .from) (year (lastDate (left w gs .book))) ladder (since w cs .days)
+TotalsCounted = (w : Desk) (cs : List Step) (gs : List Given) → SoundRun w cs gs → (ladder : ℕ) → ladder < ladders →
+    let book = left w gs .book in
+    totalAt book ladder ≡ totalOver (since w cs .from) (year (lastDate book)) ladder (since w cs .days)
 
 -- a fresh book is blank, and from a blank one nothing is carried: each total is the number of the year's offence days
 abbrev pub FreshIsBlank : Type 0
-FreshIsBlank = (book : List ℕ) (rulebook : ℕ) → freshFault (length book) rulebook ≡ 0 → freshBook book rulebook ≡ blank rulebook
+FreshIsBlank = (book : List ℕ) (rulebook : ℕ) → freshFault (length book) rulebook ≡ 0
+    → freshBook book rulebook ≡ blank rulebook
 
 abbrev pub BlankCarriesNothing : Type 0
 BlankCarriesNothing = (rulebook y ladder : ℕ) → ladder < ladders → carried (blank rulebook) y ladder ≡ 0
 
 -- the sanctions in the findings are those of the totals
 abbrev pub SanctionsFound : Type 0
-SanctionsFound = (w : Desk) (cs : List Step) (gs : List Given) → SoundRun w cs gs → Sanctioned (since w cs .from) (since w cs .days)
+SanctionsFound = (w : Desk) (cs : List Step) (gs : List Given) → SoundRun w cs gs
+    → Sanctioned (since w cs .from) (since w cs .days)
 
--- an accepted end after any such run: one day more, and in the buffer, from its start, what that day found on each ladder
+-- an accepted end after any such run: one day more, and in the buffer, from its start, what it found on each ladder
 pub record Found (w : Desk) (cs : List Step) (gs : List Given) (row : List ℕ) (g : Given) : Type 0 where
   pub day : Ended
   pub one-more : since w (cs ++ endDay row ∷ []) .days ≡ day ∷ since w cs .days
@@ -139,9 +146,10 @@ abbrev pub FindingsFound : Type 0
 FindingsFound = (w : Desk) (cs : List Step) (gs : List Given) → SoundRun w cs gs → (row : List ℕ) (g : Given)
     → Gives (left w gs) (endDay row) g → numberIn (g .reply) ≡ 0 → Found w cs gs row g
 
--- ---- any list of day logs as bytes, as the clerk reads them: the numbers, the findings and the book's file are the rules'
+-- ---- any list of day logs as bytes, as the clerk reads them: numbers, findings and the book's file are the rules'
 abbrev pub LogsRuled : Type 0
-LogsRuled = (book : List ℕ) (logs : List (List ℕ)) (js : List Judged) → JudgesAll book logs js → js ≡ ruledLogs book logs
+LogsRuled = (book : List ℕ) (logs : List (List ℕ)) (js : List Judged) → JudgesAll book logs js
+    → js ≡ ruledLogs book logs
 
 -- and every list of logs comes to something
 pub record Read (book : List ℕ) (logs : List (List ℕ)) : Type 0 where
@@ -151,12 +159,15 @@ pub record Read (book : List ℕ) (logs : List (List ℕ)) : Type 0 where
 abbrev pub AlwaysRead : Type 0
 AlwaysRead = (book : List ℕ) (logs : List (List ℕ)) → Read book logs
 
+-- the day of a log
+abbrev pub loggedDay : List ℕ → Ended
+loggedDay log = endedDay (front log) (recordsIn [] (rowsOf log))
+
 -- from a sound book's file on, the file is the book of the days whose logs were accepted
 unfoldable pub logDays : List ℕ → List Ended → List (List ℕ) → List Ended
 logDays book days [] = days
 logDays book days (log ∷ logs) =
-    logDays (ruledFile book log)
-    (pick (eqb (logNumber book log) 0) (endedDay (front log) (recordsIn [] (rowsOf log)) ∷ days) days) logs
+    logDays (ruledFile book log) (pick (eqb (logNumber book log) 0) (loggedDay log ∷ days) days) logs
 
 unfoldable pub lastFile : List ℕ → List Judged → List ℕ
 lastFile book [] = book
@@ -170,4 +181,4 @@ FileOfDays = (book : List ℕ) (logs : List (List ℕ)) (js : List Judged) → s
 abbrev pub LogsFound : Type 0
 LogsFound = (book : List ℕ) (logs : List (List ℕ)) (js : List Judged) → sound book ≡ true → JudgesAll book logs js
     → (log : List ℕ) (w : Desk) → Judges (lastFile book js) log 0 w
-    → w .out ≡ put (replicate 49152 0) 0 (rows (foundOn book (endedDay (front log) (recordsIn [] (rowsOf log))) (logDays book [] logs)) ladders)
+    → w .out ≡ put (replicate 49152 0) 0 (rows (foundOn book (loggedDay log) (logDays book [] logs)) ladders)

@@ -1,6 +1,6 @@
--- Demand 3: "Join two groups in every table of an accepted year, and each day is accepted again, counts add (self-trades plus
--- the trades between the two), and no offence and no opening restriction is lost." The statements, for lists of calls and for
--- day logs; proofs/Demand3 has the theorems under the same names.
+-- Demand 3: "Join two groups in every table of an accepted year, and each day is accepted again, counts add
+-- (self-trades plus the trades between the two), and no offence and no opening restriction is lost." The statements,
+-- for lists of calls and for day logs; proofs/Demand3 has the theorems under the same names.
 use mathlib.Core.Path.{_≡_}
 use mathlib.Core.Logic.{_⊎_}
 use mathlib.Core.Bool.{true}
@@ -13,8 +13,7 @@ use Rattle.daylog.specs.Tables.{tablesOf}
 use Rattle.desk.specs.declared.state.State.the-variants.{Closed}
 use Rattle.desk.specs.Cells.{cells}
 use Rattle.desk.specs.Offences.{groupAt}
-use Rattle.demands.specs.Counts.{timesOf, offence}
-use Rattle.demands.specs.Days.{Ended, foundOn, blank}
+use Rattle.demands.specs.Days.{Ended, timesIn, offenceIn, foundOn, blank}
 use Rattle.demands.specs.Calls.{Step, makeBook, openDay, takeRecord, endDay, abandonDay, askBook, lendFindings, numberIn, Desk, Given, Ran, left}
 use Rattle.demands.specs.Paper.{Course, idle, during}
 use Rattle.demands.specs.Logs.{Judged, JudgesAll}
@@ -31,26 +30,32 @@ pub record Two (a b : ℕ) : Type 0 where
   pub last-b : b ≤ 128
   pub differ : a ≡ b → ⊥
 
+-- a group that is neither
+pub record Other (a b group : ℕ) : Type 0 where
+  pub not-a : group ≡ a → ⊥
+  pub not-b : group ≡ b → ⊥
+
 -- ---- what a join leaves of the counts: they add, on every contract
--- `n` and `n′` count for a group, a kind and a contract's place, before and after; `across` the trades between the two
+-- `n` and `n′` count for a group, a kind and a contract's place, before and after; `across` trades between the two
 pub record Added (a b : ℕ) (n n′ : (group kind place : ℕ) → ℕ) (across : ℕ → ℕ) : Type 0 where
   pub selfs : (place : ℕ) → place < 32 → n′ b 1 place ≡ n a 1 place + n b 1 place + across place
   pub frequent : (place : ℕ) → place < 32 → n′ b 2 place ≡ n a 2 place + n b 2 place
   pub over : (place : ℕ) → place < 32 → n′ b 3 place ≡ n a 3 place + n b 3 place
   pub none-left : (kind place : ℕ) → HasCell a kind place → n′ a kind place ≡ 0
-  pub others : (group kind place : ℕ) → HasCell group kind place → (group ≡ a → ⊥) → (group ≡ b → ⊥) → n′ group kind place ≡ n group kind place
+  pub others : (group kind place : ℕ) → HasCell group kind place → Other a b group
+      → n′ group kind place ≡ n group kind place
 
 -- ---- of a day: `before` and `before′` are the days before it, on the book `from`
 pub record DayJoined (a b : ℕ) (from : List ℕ) (d d′ : Ended) (before before′ : List Ended) : Type 0 where
   pub date : d′ .date ≡ d .date
   pub records : d′ .records ≡ d .records
   pub tables : Joined a b (d .tables) (d′ .tables)
-  pub added : Added a b (timesOf (d .tables) (d .records)) (timesOf (d′ .tables) (d .records)) (between (d .tables) (d .records) a b)
+  pub added : Added a b (timesIn d) (timesIn d′) (between (d .tables) (d .records) a b)
   -- "Every day that was an offence of a or of b, of a kind in a family, is one of the joined group on the same ladder."
-  pub stays : (kind family : ℕ) → (offence (d .tables) (d .records) a kind family ≡ true) ⊎ (offence (d .tables) (d .records) b kind family ≡ true)
-      → offence (d′ .tables) (d .records) b kind family ≡ true
+  pub stays : (kind family : ℕ) → (offenceIn d a kind family ≡ true) ⊎ (offenceIn d b kind family ≡ true)
+      → offenceIn d′ b kind family ≡ true
   -- other groups' findings are as they were, byte for byte, and group a has none any more
-  pub others : (l : ℕ) → l < ladders → (groupAt l ≡ a → ⊥) → (groupAt l ≡ b → ⊥) → foundOn from d′ before′ l ≡ foundOn from d before l
+  pub others : (l : ℕ) → l < ladders → Other a b (groupAt l) → foundOn from d′ before′ l ≡ foundOn from d before l
   pub gone : (l : ℕ) → l < ladders → groupAt l ≡ a → foundOn from d′ before′ l ≡ []
 
 pub data DaysJoined (a b : ℕ) (from : List ℕ) : List Ended → List Ended → Type 0 where
@@ -66,15 +71,18 @@ pub data InYear (y : ℕ) : List Ended → Type 0 where
 -- group g had no more on a kind's ladder in a family than group b has after the join
 pub record NoFewer (g b : ℕ) (from book book′ : List ℕ) (days days′ : List Ended) (kind family : ℕ) : Type 0 where
   pub totals : totalAt book (ladderOf g kind family) ≤ totalAt book′ (ladderOf b kind family)
-  pub restricted : (y : ℕ) → InYear y days → restrictions from (ladderOf g kind family) days ≤ restrictions from (ladderOf b kind family) days′
+  pub restricted : (y : ℕ) → InYear y days
+      → restrictions from (ladderOf g kind family) days ≤ restrictions from (ladderOf b kind family) days′
 
 -- the days, and the books that they leave
 pub record YearJoined (a b : ℕ) (from book book′ : List ℕ) (days days′ : List Ended) : Type 0 where
   pub each : DaysJoined a b from days days′
-  pub than-a : (kind family : ℕ) → 1 ≤ kind → kind ≤ 3 → family ≤ 15 → NoFewer a b from book book′ days days′ kind family
-  pub than-b : (kind family : ℕ) → 1 ≤ kind → kind ≤ 3 → family ≤ 15 → NoFewer b b from book book′ days days′ kind family
+  pub than-a : (kind family : ℕ) → 1 ≤ kind → kind ≤ 3 → family ≤ 15
+      → NoFewer a b from book book′ days days′ kind family
+  pub than-b : (kind family : ℕ) → 1 ≤ kind → kind ≤ 3 → family ≤ 15
+      → NoFewer b b from book book′ days days′ kind family
   -- "all other groups' findings and totals are exactly as they were, and group a has none any more"
-  pub others : (l : ℕ) → l < ladders → (groupAt l ≡ a → ⊥) → (groupAt l ≡ b → ⊥) → totalAt book′ l ≡ totalAt book l
+  pub others : (l : ℕ) → l < ladders → Other a b (groupAt l) → totalAt book′ l ≡ totalAt book l
   pub gone : (l : ℕ) → l < ladders → groupAt l ≡ a → totalAt book′ l ≡ 0
 
 -- ---- any list of steps from a fresh book, and the same with the two groups joined in every table
@@ -90,7 +98,8 @@ pub data StepJoined (a b : ℕ) : Step → Step → Type 0 where
 
 pub data StepsJoined (a b : ℕ) : List Step → List Step → Type 0 where
   none : StepsJoined a b [] []
-  more : {c c′ : Step} {cs cs′ : List Step} → StepJoined a b c c′ → StepsJoined a b cs cs′ → StepsJoined a b (c ∷ cs) (c′ ∷ cs′)
+  more : {c c′ : Step} {cs cs′ : List Step} → StepJoined a b c c′ → StepsJoined a b cs cs′
+      → StepsJoined a b (c ∷ cs) (c′ ∷ cs′)
 
 -- "At most 6,144, which is 49,152 bytes"
 abbrev pub fullRoom : ℕ
@@ -99,15 +108,16 @@ fullRoom = 49152
 -- every findings buffer that is lent has that room, whatever its bytes
 pub data Roomy : List Step → Type 0 where
   none : Roomy []
-  more : {c : Step} {cs : List Step} → ((out : List ℕ) → c ≡ lendFindings out → fullRoom ≤ length out) → Roomy cs → Roomy (c ∷ cs)
+  more : {c : Step} {cs : List Step} → ((out : List ℕ) → c ≡ lendFindings out → fullRoom ≤ length out)
+      → Roomy cs → Roomy (c ∷ cs)
 
 -- every call was accepted
 pub data Accepted : List Given → Type 0 where
   none : Accepted []
   more : {g : Given} {gs : List Given} → numberIn (g .reply) ≡ 0 → Accepted gs → Accepted (g ∷ gs)
 
--- the joined run has full room for findings. Of the run itself: either every call was accepted, and its buffers are of any
--- length; or they have full room too and the counts are of one length, and any calls may have been refused
+-- the joined run has full room for findings. Of the run itself: either every call was accepted, and its buffers are of
+-- any length; or they have full room too and the counts are of one length, and any calls may have been refused
 pub data Fair (w w′ : Desk) (cs : List Step) (gs : List Given) : Type 0 where
   accepted : Accepted gs → cells ≤ length (w′ .counts) → Fair w w′ cs gs
   roomy : fullRoom ≤ length (w .out) → Roomy cs → length (w′ .counts) ≡ length (w .counts) → Fair w w′ cs gs
@@ -136,19 +146,23 @@ CellsAdded a b (during log rs) c c′ = Added a b (cellIn c) (cellIn c′) (betw
 abbrev pub numbers : List Given → List ℕ
 numbers gs = map (λ g. numberIn (g .reply)) gs
 
+-- each call, refused ones too, gets the number that it had: an accepted one is accepted again
+abbrev pub SameNumbers : (gs gs′ : List Given) → Type 0
+SameNumbers gs gs′ = numbers gs′ ≡ numbers gs
+
 -- the theorem over lists of steps
 pub record RunJoined (a b : ℕ) (w w′ : Desk) (cs cs′ : List Step) (gs gs′ : List Given) : Type 0 where
-  -- each call, refused ones too, gets the number that it had: an accepted one is accepted again
-  pub same-numbers : numbers gs′ ≡ numbers gs
+  pub same-numbers : SameNumbers gs gs′
   pub cells-add : CellsAdded a b (lastOpened (begun w) idle cs) (left w gs .counts) (left w′ gs′ .counts)
   pub same-book : since w′ cs′ .from ≡ since w cs .from
-  pub year : YearJoined a b (since w cs .from) (left w gs .book) (left w′ gs′ .book) (since w cs .days) (since w′ cs′ .days)
+  pub year : YearJoined a b (since w cs .from) (left w gs .book) (left w′ gs′ .book)
+      (since w cs .days) (since w′ cs′ .days)
 
 abbrev pub NothingLost : Type 0
-NothingLost = (a b rulebook : ℕ) (w w′ : Desk) (cs cs′ : List Step) (gs gs′ : List Given) → Run a b rulebook w w′ cs cs′ gs gs′
-    → RunJoined a b w w′ cs cs′ gs gs′
+NothingLost = (a b rulebook : ℕ) (w w′ : Desk) (cs cs′ : List Step) (gs gs′ : List Given)
+    → Run a b rulebook w w′ cs cs′ gs gs′ → RunJoined a b w w′ cs cs′ gs gs′
 
--- ---- day logs as the clerk reads them, from a fresh book's file, and the same files with the groups joined in their tables
+-- ---- day logs as the clerk reads them, from a fresh book's file, and the same with the groups joined in their tables
 pub record LogsJoined (a b rulebook : ℕ) (logs : List (List ℕ)) (js js′ : List Judged) : Type 0 where
   -- each log gets the number that it had: an accepted one is accepted again
   pub same-numbers : map (λ j. j .number) js′ ≡ map (λ j. j .number) js
@@ -156,6 +170,7 @@ pub record LogsJoined (a b rulebook : ℕ) (logs : List (List ℕ)) (js js′ : 
       (logDays (blank rulebook) [] logs) (logDays (blank rulebook) [] (map (joinLog a b) logs))
 
 abbrev pub NothingLostInLogs : Type 0
-NothingLostInLogs = (a b rulebook : ℕ) (logs : List (List ℕ)) (js js′ : List Judged) → Two a b → (rulebook ≡ 1) ⊎ (rulebook ≡ 2)
+NothingLostInLogs = (a b rulebook : ℕ) (logs : List (List ℕ)) (js js′ : List Judged)
+    → Two a b → (rulebook ≡ 1) ⊎ (rulebook ≡ 2)
     → JudgesAll (blank rulebook) logs js → JudgesAll (blank rulebook) (map (joinLog a b) logs) js′
     → LogsJoined a b rulebook logs js js′

@@ -1,5 +1,5 @@
--- Why demand 3 counts "findings with sanction 3 or 5" and not those with 3 alone: in rulebook 1 a group that gets a member by the
--- join has 5 where it had 3. One example shows it.
+-- Why demand 3 counts "findings with sanction 3 or 5" and not those with 3 alone: in rulebook 1 a group that gets a
+-- member by the join has 5 where it had 3. One example shows it.
 use mathlib.Core.Path.{_≡_}
 use mathlib.Core.List.{List, [], _∷_}
 use Prim.Native.Nat.{ℕ, _+_, _≤_}
@@ -15,15 +15,20 @@ use Rattle.demands.specs.Join.{Joined}
 use Rattle.demands.specs.Restrictions.{sanctions, restrictions}
 use Rattle.demands.specs.Demand3.{InYear}
 
--- ---- the days
--- rulebook 1 and one futures contract, 101; account 11, a client, in a group, and account 12, a non-broker member, in group 2
+-- ---- the days rulebook 1 and one futures contract, 101; account 11, a client, in a group; account 12, a non-broker
+-- member, in group 2
 unfoldable pub tablesWith : (group : ℕ) → Tables
 tablesWith group = record {
   rulebook = 1;
   contracts = 1;
   contract = λ place. futures 101 1000;
   accounts = 2;
-  account = λ place. record { number = 11 + place; group = pick (eqb place 0) group 2; kind = pick (eqb place 0) 1 2; spare = 0 };
+  account = λ place. record {
+    number = 11 + place;
+    group = pick (eqb place 0) group 2;
+    kind = pick (eqb place 0) 1 2;
+    spare = 0;
+  };
 }
 
 -- account 11 trades with itself

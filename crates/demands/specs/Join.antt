@@ -1,5 +1,5 @@
--- Demand 3, its words: "in every day's table give all accounts of group a the number of group b .., as a change of bytes in the
--- lent tables and of nothing else".
+-- Demand 3, its words: "in every day's table give all accounts of group a the number of group b .., as a change of
+-- bytes in the lent tables and of nothing else".
 use mathlib.Core.Path.{_≡_}
 use mathlib.Core.Bool.{Bool, _&&_, _||_, not}
 use mathlib.Core.List.{List, [], _∷_}
@@ -25,7 +25,7 @@ accountsFrom h = 16 + 8 * h .contracts
 abbrev pub accountsTo : Header → ℕ
 accountsTo h = accountsFrom h + 8 * h .accounts
 
--- the byte at a place of a log, or of a file that begins with its tables, is the group of an account entry: the fifth of its 8
+-- the byte at a place of a log, or of a file that begins with its tables, is the group of an account entry: byte 4 of 8
 abbrev pub groupByte : Header → ℕ → Bool
 groupByte h i = leb (accountsFrom h) i && ltb i (accountsTo h) && eqb ((i - accountsFrom h) % 8) 4
 

@@ -1,4 +1,4 @@
--- 01, "Layouts": "Counts: 12,288 numbers of 32 bits, lent." What they hold after any list of steps, by the records alone.
+-- 01, "Layouts": "Counts: 12,288 numbers of 32 bits, lent." What they hold after any list of steps, by the records.
 use mathlib.Core.Path.{_≡_}
 use mathlib.Core.List.{List, [], _∷_}
 use Prim.Native.Nat.{ℕ, _≤_, _<_}
@@ -22,23 +22,27 @@ pub record HasCell (group kind place : ℕ) : Type 0 where
 abbrev pub cellIn : List ℕ → (group kind place : ℕ) → ℕ
 cellIn c group kind place = getD c (cellOf group kind place) 0
 
--- ---- the day last opened, with the records that it took, whether it is still open, was ended, or was abandoned; idle where
--- none was opened: "Opening zeroes the first 12,288 counts", ending "leaves the counts", abandoning "writes nothing"
+-- ---- the day last opened, with the records that it took, whether it is still open, was ended, or was abandoned; idle
+-- where none was: "Opening zeroes the first 12,288 counts", ending "leaves the counts", abandoning "writes nothing"
 abbrev pub latest : Course → Course → Course
 latest idle last = last
 latest (during log rs) last = during log rs
 
 unfoldable pub lastOpened : Paper → Course → List Step → Course
 lastOpened p last [] = last
-lastOpened p last (c ∷ cs) = let after = rule p (p .course) c .after in lastOpened after (latest (after .course) last) cs
+lastOpened p last (c ∷ cs) =
+    let after = rule p (p .course) c .after in
+    lastOpened after (latest (after .course) last) cs
 
 -- ---- what the counts hold that were lent
--- a cell is the number of records that count for its group and kind on its contract, and 0 where there is no contract; the
--- numbers past the 12,288th are as they were lent
+-- a cell is the number of records that count for its group and kind on its contract, and 0 where there is no contract;
+-- the numbers past the 12,288th are as they were lent
 pub record Counted (log : List ℕ) (rs : List Record) (lent c : List ℕ) : Type 0 where
   pub long : length c ≡ length lent
-  pub times : (group kind place : ℕ) → HasCell group kind place → cellIn c group kind place ≡ timesOf (tablesOf log) rs group kind place
-  pub spare : (group kind place : ℕ) → HasCell group kind place → tablesOf log .contracts ≤ place → cellIn c group kind place ≡ 0
+  pub times : (group kind place : ℕ) → HasCell group kind place
+      → cellIn c group kind place ≡ timesOf (tablesOf log) rs group kind place
+  pub spare : (group kind place : ℕ) → HasCell group kind place → tablesOf log .contracts ≤ place
+      → cellIn c group kind place ≡ 0
   pub past : drop cells c ≡ drop cells lent
 
 -- before the first opening they are as they were lent

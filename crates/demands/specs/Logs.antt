@@ -42,21 +42,27 @@ rowsOf log = pieces (length log) (drop (frontSize log) log)
 abbrev pub isEnd : List ℕ → Bool
 isEnd row = eqb (getD row 0 0) 3
 
--- ---- by the calls: what the clerk makes of the rows, from a desk on which the day is open: the number, and what is left
+-- ---- by the calls: what the clerk makes of the rows, from a desk on which the day is open: number, and what is left
 pub data Reads : Desk → List (List ℕ) → ℕ → Desk → Type 0 where
   -- "a cut-off log (1)": no end record, or a record that is cut off
   stops : {w : Desk} → Reads w [] 1 w
   cut : {w : Desk} {row : List ℕ} {more : List (List ℕ)} → eqb (length row) 20 ≡ false → Reads w (row ∷ more) 1 w
-  takes : {w w′ : Desk} {row : List ℕ} {more : List (List ℕ)} {g : Given} {n : ℕ} → eqb (length row) 20 ≡ true → isEnd row ≡ false
+  takes : {w w′ : Desk} {row : List ℕ} {more : List (List ℕ)} {g : Given} {n : ℕ}
+      → eqb (length row) 20 ≡ true → isEnd row ≡ false
       → Gives w (takeRecord row) g → numberIn (g .reply) ≡ 0 → Reads (g .after) more n w′ → Reads w (row ∷ more) n w′
-  take-refused : {w : Desk} {row : List ℕ} {more : List (List ℕ)} {g : Given} → eqb (length row) 20 ≡ true → isEnd row ≡ false
-      → Gives w (takeRecord row) g → (numberIn (g .reply) ≡ 0 → ⊥) → Reads w (row ∷ more) (numberIn (g .reply)) (g .after)
-  end-refused : {w : Desk} {row : List ℕ} {more : List (List ℕ)} {g : Given} → eqb (length row) 20 ≡ true → isEnd row ≡ true
-      → Gives w (endDay row) g → (numberIn (g .reply) ≡ 0 → ⊥) → Reads w (row ∷ more) (numberIn (g .reply)) (g .after)
+  take-refused : {w : Desk} {row : List ℕ} {more : List (List ℕ)} {g : Given}
+      → eqb (length row) 20 ≡ true → isEnd row ≡ false
+      → Gives w (takeRecord row) g → (numberIn (g .reply) ≡ 0 → ⊥)
+      → Reads w (row ∷ more) (numberIn (g .reply)) (g .after)
+  end-refused : {w : Desk} {row : List ℕ} {more : List (List ℕ)} {g : Given}
+      → eqb (length row) 20 ≡ true → isEnd row ≡ true
+      → Gives w (endDay row) g → (numberIn (g .reply) ≡ 0 → ⊥)
+      → Reads w (row ∷ more) (numberIn (g .reply)) (g .after)
   ends : {w : Desk} {row : List ℕ} {g : Given} → eqb (length row) 20 ≡ true → isEnd row ≡ true
       → Gives w (endDay row) g → numberIn (g .reply) ≡ 0 → Reads w (row ∷ []) 0 (g .after)
   -- "bytes after the end record (1, only where the end itself is accepted)"
-  follows : {w : Desk} {row next : List ℕ} {more : List (List ℕ)} {g : Given} → eqb (length row) 20 ≡ true → isEnd row ≡ true
+  follows : {w : Desk} {row next : List ℕ} {more : List (List ℕ)} {g : Given}
+      → eqb (length row) 20 ≡ true → isEnd row ≡ true
       → Gives w (endDay row) g → numberIn (g .reply) ≡ 0 → Reads w (row ∷ next ∷ more) 1 (g .after)
 
 -- "It reads the book from the file .. and has 12,288 counts of its own, all zero at the start"
@@ -99,11 +105,13 @@ logNumber book log = orElse (handedFault (front log) book cells) (rowsNumber (fr
 -- the findings as bytes, and the book after the day
 abbrev pub dayFindings : (book log : List ℕ) → List ℕ
 dayFindings book log =
-    findings (tablesOf (front log)) (headerOf (front log) .date) book (timesOn (tablesOf (front log)) (recordsIn [] (rowsOf log)))
+    let t = tablesOf (front log) in
+    findings t (headerOf (front log) .date) book (timesOn t (recordsIn [] (rowsOf log)))
 
 abbrev pub dayBook : (book log : List ℕ) → List ℕ
 dayBook book log =
-    bookAfter (tablesOf (front log)) (headerOf (front log) .date) book (timesOn (tablesOf (front log)) (recordsIn [] (rowsOf log)))
+    let t = tablesOf (front log) in
+    bookAfter t (headerOf (front log) .date) book (timesOn t (recordsIn [] (rowsOf log)))
 
 -- the file after a log: the day's book where the log is accepted, and else as it was
 unfoldable pub ruledFile : List ℕ → List ℕ → List ℕ
@@ -123,11 +131,14 @@ pub data JudgesAll : List ℕ → List (List ℕ) → List Judged → Type 0 whe
   none : {book : List ℕ} → JudgesAll book [] []
   next : {book log : List ℕ} {logs : List (List ℕ)} {n : ℕ} {w : Desk} {js : List Judged} → Judges book log n w
       → JudgesAll (fileAfter book n w) logs js
-      → JudgesAll book (log ∷ logs) (record { number = n; printed = printedOf n (w .out); book = fileAfter book n w } ∷ js)
+      → JudgesAll book (log ∷ logs)
+      (record { number = n; printed = printedOf n (w .out); book = fileAfter book n w } ∷ js)
 
 -- the same by the rules
 unfoldable pub ruledLogs : List ℕ → List (List ℕ) → List Judged
 ruledLogs book [] = []
-ruledLogs book (log ∷ logs) =
-    record { number = logNumber book log; printed = printedOf (logNumber book log) (put (replicate 49152 0) 0 (dayFindings book log)); book = ruledFile book log }
-    ∷ ruledLogs (ruledFile book log) logs
+ruledLogs book (log ∷ logs) = record {
+  number = logNumber book log;
+  printed = printedOf (logNumber book log) (put (replicate 49152 0) 0 (dayFindings book log));
+  book = ruledFile book log;
+} ∷ ruledLogs (ruledFile book log) logs

@@ -83,7 +83,8 @@ endRuled p log rs fault =
     let date = headerOf log .date in
     let counted = timesOn t rs in record {
       reply = ended (pick (eqb fault 0) (Done Closed (foundCount t counted)) (Refused fault));
-      after = pick (eqb fault 0) (resting p (bookAfter t date (p .book) counted) (put (p .out) 0 (findings t date (p .book) counted))) p;
+      after = pick (eqb fault 0)
+          (resting p (bookAfter t date (p .book) counted) (put (p .out) 0 (findings t date (p .book) counted))) p;
     }
 
 -- "10: a day is open for open; none is for take, end, abandon"

@@ -18,9 +18,8 @@ use Rattle.demands.specs.Days.{Ended, offenceOn, totalOver, foundOn}
 -- the sanction of a day's finding on a ladder, after the days before it; 0 where there is none
 unfoldable pub sanctionOn : List ℕ → ℕ → Ended → List Ended → ℕ
 sanctionOn from ladder d before =
-    pick (offenceOn ladder d)
-    (sanction (d .tables .rulebook) (rung (totalOver from (year (d .date)) ladder (d ∷ before))) (memberOn (d .tables) (groupAt ladder)))
-    0
+    let total = totalOver from (year (d .date)) ladder (d ∷ before) in
+    pick (offenceOn ladder d) (sanction (d .tables .rulebook) (rung total) (memberOn (d .tables) (groupAt ladder))) 0
 
 abbrev pub noOpening : ℕ → Bool
 noOpening s = eqb s 3 || eqb s 5
@@ -28,7 +27,8 @@ noOpening s = eqb s 3 || eqb s 5
 -- how many findings on a ladder had a sanction that a test picks out
 unfoldable pub sanctions : (ℕ → Bool) → List ℕ → ℕ → List Ended → ℕ
 sanctions test from ladder [] = 0
-sanctions test from ladder (d ∷ before) = pick (test (sanctionOn from ladder d before)) 1 0 + sanctions test from ladder before
+sanctions test from ladder (d ∷ before) =
+    pick (test (sanctionOn from ladder d before)) 1 0 + sanctions test from ladder before
 
 -- "its number of opening restrictions (findings with sanction 3 or 5)"
 abbrev pub restrictions : List ℕ → ℕ → List Ended → ℕ

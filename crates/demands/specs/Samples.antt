@@ -1,5 +1,5 @@
--- A contract, a trade and a book of document 01's layouts, from which the starred rows, the example of demand 3 and document
--- 01's own example are made.
+-- A contract, a trade and a book of document 01's layouts, from which the starred rows, the example of demand 3 and
+-- document 01's own example are made.
 use Prim.Native.Nat.{ℕ}
 use mathlib.Core.List.{List}
 use lib.Dec.{eqb}

@@ -1,5 +1,5 @@
--- 01, "Either side of each line": the starred cases as one table. Each row has the paper's words beside it; where the paper
--- says no, the row begins with `not`. A line that holds in both rulebooks has rows for 1 and then for 2.
+-- 01, "Either side of each line": the starred cases as one table. Each row has the paper's words beside it; where the
+-- paper says no, the row begins with `not`. A line that holds in both rulebooks has rows for 1 and then for 2.
 use mathlib.Core.Path.{_≡_}
 use Prim.Native.Nat.{ℕ, _+_}
 use mathlib.Core.Bool.{Bool, true, not, _&&_}
@@ -56,8 +56,8 @@ plainLimit = 1
 abbrev pub countable : ℕ → ℕ
 countable rulebook = pick (eqb rulebook 1) plainLimit 5
 
--- ---- what is asked of them: are these records an offence of group 3 in family 0 (kind 1 self-trade, 2 frequent, 3 large)
--- n self-trades on a contract
+-- ---- what is asked of them: are these records an offence of group 3 in family 0 (kind 1 self-trade, 2 frequent, 3
+-- large) n self-trades on a contract
 unfoldable pub selfTrades : (rulebook n : ℕ) → Bool
 selfTrades rulebook n = offence (dayWith rulebook 1 1000) (replicate n trade) 3 1 0
 
@@ -79,7 +79,8 @@ largeCancels rulebook amount largest n =
 -- ---- and of one record: does it count for group 3 and a kind on the contract at place 0
 -- a cancel, plain limit and ordinary, of an amount in lots on a contract with a largest order
 unfoldable pub cancelCounts : (rulebook amount largest kind : ℕ) → Bool
-cancelCounts rulebook amount largest kind = countsFor (dayWith rulebook 1 largest) (cancel 101 amount plainLimit) 3 kind 0
+cancelCounts rulebook amount largest kind =
+    countsFor (dayWith rulebook 1 largest) (cancel 101 amount plainLimit) 3 kind 0
 
 -- ---- and of a book
 -- a book of rulebook 1 with a last date and one total that is not 0, that of group 1, kind 1, family 0

@@ -1,6 +1,7 @@
--- 01, "The clerk's program", the example, as bytes and calls: "rulebook 1, 5 March 2024, contract 101 (futures), accounts 11 and
--- 12 as clients in group 3, four trades 11 to 12 and one 12 to 12, all plain limit and ordinary; the book's last date is
--- 20240304 and group 3 has total 1 for kind 1 family 0". Then three short lists of calls with refusals between.
+-- 01, "The clerk's program", the example, as bytes and calls: "rulebook 1, 5 March 2024, contract 101 (futures),
+-- accounts 11 and 12 as clients in group 3, four trades 11 to 12 and one 12 to 12, all plain limit and ordinary; the
+-- book's last date is 20240304 and group 3 has total 1 for kind 1 family 0". Then three short lists of calls with
+-- refusals between.
 use mathlib.Core.Path.{_≡_}
 use mathlib.Core.List.{List, [], _∷_, _++_, map}
 use Prim.Native.Nat.{ℕ}
@@ -30,8 +31,8 @@ workedTables =
     ∷ 0x0C ∷ 0x00 ∷ 0x00 ∷ 0x00 ∷ 0x03 ∷ 0x01 ∷ 0x00 ∷ 0x00
     ∷ []
 
--- a trade on a contract, of one lot: the first account buys and the second sells; "all plain limit and ordinary". The three
--- numbers are below 256
+-- a trade on a contract, of one lot: the first account buys and the second sells; "all plain limit and ordinary". The
+-- three numbers are below 256
 unfoldable pub tradeOn : (contract first second : ℕ) → List ℕ
 tradeOn contract first second =
     -- type 1, a zero byte, the contract, and the two accounts
@@ -55,8 +56,8 @@ endRow n = 0x03 ∷ 0x00 ∷ 0x00 ∷ 0x00 ∷ n ∷ replicate 15 0x00
 abbrev pub workedBook : (date total : ℕ) → List ℕ
 workedBook date total = bookWithOne (ladderOf 3 1 0) date total
 
--- ---- the calls
--- the clerk's buffers with "the book's last date is 20240304 and group 3 has total 1 for kind 1 family 0"; no day is open
+-- ---- the calls the clerk's buffers with "the book's last date is 20240304 and group 3 has total 1 for kind 1 family
+-- 0"; no day is open
 abbrev pub workedDesk : Desk
 workedDesk = clerkDesk (workedBook 20240304 1)
 
@@ -106,8 +107,8 @@ noBook = record { course = idle; book = []; out = []; room = 12288 }
 unfoldable pub wrongMark : List ℕ
 wrongMark = 0x41 ∷ 0x58 ∷ 0x42 ∷ drop 3 workedTables
 
--- take, end and abandon: 10, none is open; ask: 17, the book is not sound; fresh: 4, the rulebook's number, and 17, the length;
--- open: 2, the mark, and 17
+-- take, end and abandon: 10, none is open; ask: 17, the book is not sound; fresh: 4, the rulebook's number, and 17,
+-- the length; open: 2, the mark, and 17
 unfoldable pub noBookSteps : List Step
 noBookSteps =
     takeRecord (tradeRow 11 12) ∷ endDay (endRow 0) ∷ abandonDay ∷ askBook 1 1 0 ∷ makeBook 3 ∷ makeBook 1
@@ -133,15 +134,16 @@ openSteps =
 unfoldable pub shortOut : Paper
 shortOut = record { course = idle; book = workedBook 20240304 1; out = replicate 7 0; room = 12288 }
 
--- the example with a record of type 3 among the trades, 11; its end refused for the room, 20, and accepted once a buffer of
--- 8 bytes is lent; then 10, none is open
+-- the example with a record of type 3 among the trades, 11; its end refused for the room, 20, and accepted once a
+-- buffer of 8 bytes is lent; then 10, none is open
 unfoldable pub shortOutSteps : List Step
 shortOutSteps =
     openDay workedTables ∷ takeRecord (tradeRow 11 12) ∷ takeRecord (tradeRow 11 12) ∷ takeRecord (endRow 2)
     ∷ takeRecord (tradeRow 11 12) ∷ takeRecord (tradeRow 11 12) ∷ takeRecord (tradeRow 12 12)
     ∷ endDay (endRow 5) ∷ lendFindings (replicate 8 0) ∷ endDay (endRow 5) ∷ abandonDay ∷ []
 
--- their numbers by the rules: a refusal leaves all as it was, so that the calls after it are answered as if it were not there
+-- their numbers by the rules: a refusal leaves all as it was, so that the calls after it are answered as if it were
+-- not there
 pub record Refusals : Type 0 where
   pub no-book : numbersOn noBook noBookSteps ≡ 10 ∷ 10 ∷ 10 ∷ 17 ∷ 4 ∷ 17 ∷ 2 ∷ 17 ∷ []
   pub day-open : (p : Paper) → numbersOn (justOpened p) openSteps ≡ 10 ∷ 1 ∷ 11 ∷ 12 ∷ 13 ∷ 0 ∷ 15 ∷ 0 ∷ 10 ∷ []

@@ -1,5 +1,5 @@
-// What was asked for, stated in specs/ and proved in proofs/. The functions here tie the statements to the code: where a call
-// promises less, or a theorem goes, one of them is no longer proved. Nobody calls them.
+// What was asked for, stated in specs/ and proved in proofs/. The functions here tie the statements to the code: where a
+// call promises less, or a theorem goes, one of them is no longer proved. Nobody calls them.
 use book::ask::Asked;
 use book::fresh::NewBook;
 use desk::end::Ended;
@@ -15,13 +15,15 @@ fn fresh_tied(book: &mut [u8], rulebook: u64) -> NewBook
 }
 
 fn open_tied(state: State, log: &[u8], book: &[u8], counts: &mut [u32]) -> Answer
-    ensures { λ a. ⌜ OpenTied state (now (log .entry)) (now (book .entry)) (now (counts .entry)) a (now (counts .exit)) ⌝ }
+    ensures { λ a. ⌜ OpenTied state (now (log .entry)) (now (book .entry)) (now (counts .entry))
+        a (now (counts .exit)) ⌝ }
 {
     desk::open::open(state, log, book, counts)
 }
 
 fn take_tied(state: State, log: &[u8], row: &[u8], counts: &mut [u32]) -> Answer
-    ensures { λ a. ⌜ TakeTied state (now (log .entry)) (now (row .entry)) (now (counts .entry)) a (now (counts .exit)) ⌝ }
+    ensures { λ a. ⌜ TakeTied state (now (log .entry)) (now (row .entry)) (now (counts .entry))
+        a (now (counts .exit)) ⌝ }
 {
     desk::take::take(state, log, row, counts)
 }
@@ -34,7 +36,8 @@ fn end_tied(
     counts: &[u32],
     findings: &mut [u8],
 ) -> Ended
-    ensures { λ a. ⌜ EndTied state (now (log .entry)) (now (row .entry)) (now (book .entry)) (now (counts .entry)) (now (findings .entry))
+    ensures { λ a. ⌜ EndTied state (now (log .entry)) (now (row .entry))
+        (now (book .entry)) (now (counts .entry)) (now (findings .entry))
         a (now (book .exit)) (now (findings .exit)) ⌝ }
 {
     desk::end::end(state, log, row, book, counts, findings)

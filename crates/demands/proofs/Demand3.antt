@@ -13,14 +13,14 @@ use Rattle.demands.specs.Paper.{Course, idle, Paper, numbersOn}
 use Rattle.demands.specs.Lent.{HasCell, cellIn, CountsHold}
 use Rattle.demands.specs.Demand2.{Seen, begun, SoundRun, History, since}
 use Rattle.demands.specs.Join.{joinLog, between}
-use Rattle.demands.specs.Demand3.{Two, Added, Accepted, none, more, Fair, accepted as was-accepted, roomy as was-roomy, FreshRun, Run, CellsAdded, numbers, NothingLost, NothingLostInLogs}
+use Rattle.demands.specs.Demand3.{Two, Added, Accepted, none, more, Fair, accepted as was-accepted, full-size as was-full-size, FreshRun, Run, CellsAdded, numbers, NothingLost, NothingLostInLogs}
 use Rattle.demands.proofs.CallLaws.{Stands, step, stands-book, begins, runs-read}
 use Rattle.demands.proofs.NumberLaws.{number-is}
 use Rattle.demands.proofs.TotalLaws.{kept-none, blank-sound}
 use Rattle.demands.proofs.Demand2.{one-of, sound-run, logs-ruled, cells-counted}
 use Rattle.demands.proofs.JoinTables.{joined-log}
 use Rattle.demands.proofs.JoinYears.{years-fresh, times-join, year-joined}
-use Rattle.demands.proofs.JoinRun.{AcceptedBy, Fits, accepted, roomy, Twin, both-idle, both-open, Beside, Runs, runs}
+use Rattle.demands.proofs.JoinRun.{AcceptedBy, Fits, accepted, full-size, Twin, both-idle, both-open, Beside, Runs, runs}
 use Rattle.demands.proofs.JoinLogs.{files}
 
 -- ---- acceptance, on the desk and on the paper
@@ -84,7 +84,7 @@ module _ (a b rulebook : ℕ) (w w′ : Desk) (cs cs′ : List Step) (gs gs′ :
 
   fits : Fair w w′ cs gs → Fits (begun w) (begun w′) cs
   fits (was-accepted y n) = accepted (accepted-by (begins w (r .run .closed)) (r .run .ran) y) n
-  fits (was-roomy h l n) = roomy h l n
+  fits (was-full-size h l n) = full-size h l n
 
   side : Runs a b (r .two) (begun w) (begun w′) (start w) (start w′) idle idle cs cs′
   side = runs a b (r .two) (begun w) (begun w′) (start w) (start w′) idle idle cs cs′ beside both-idle (r .steps) (fits (r .fair)) (r .out) (r .lent)

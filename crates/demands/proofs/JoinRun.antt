@@ -5,12 +5,12 @@ use mathlib.Core.Bool.{Bool, true, false, not}
 use mathlib.Core.List.{List, [], _∷_}
 use Prim.Native.Nat.{ℕ, _*_, _≤_}
 use native.Mathlib.Omega.{arith}
-use borrow.Author.Tests.{eqb-true, eqb-false, eq-eqb, ne-eqb, le-ltb}
+use borrow.Author.Tests.{leb-true, eqb-true, eqb-false, eq-eqb, ne-eqb, le-ltb}
 use lib.Dec.{leb, ltb, eqb, lit<}
 use lib.ListN.{length}
 use Rattle.wire.specs.Choice.{pick, orElse}
 use Rattle.wire.specs.Buffers.{put}
-use Rattle.wire.proofs.ChoiceLaws.{pick-yes, pick-no, pick-zero, or-none}
+use Rattle.wire.proofs.ChoiceLaws.{pick-yes, pick-no, pick-zero, or-none, and-left, and-right}
 use Rattle.wire.proofs.BufferLaws.{length-put}
 use Rattle.book.specs.Fresh.{freshFault, freshBook}
 use Rattle.book.specs.Ask.{inRange, askFault}
@@ -31,7 +31,7 @@ use Rattle.demands.specs.Paper.{Course, idle, during, Paper, dayIn, take
 use Rattle.demands.specs.Lent.{latest, lastOpened}
 use Rattle.demands.specs.Demand2.{History, recorded, history}
 use Rattle.demands.specs.Join.{joinLog}
-use Rattle.demands.specs.Demand3.{Two, StepJoined, makes, opens, takes, ends, abandons, asks, lends, StepsJoined, none, more, Roomy, more as more-lent}
+use Rattle.demands.specs.Demand3.{Two, StepJoined, makes, opens, takes, ends, abandons, asks, lends, StepsJoined, none, more, roomy, allRoomy}
 use Rattle.demands.proofs.CallLaws.{paper, handed-parts}
 use Rattle.demands.proofs.ListedLaws.{findings-list}
 use Rattle.demands.proofs.NumberLaws.{refusal, number-is}
@@ -110,18 +110,17 @@ unfolding pick
 out-of true q p h l = h
 out-of false q p h l = l
 
-written-room : (t : Tables) (rs : List Record) (date : ℕ) (book out : List ℕ) → 49152 ≤ length out
+pub written-room : (t : Tables) (rs : List Record) (date : ℕ) (book out : List ℕ) → 49152 ≤ length out
     → 49152 ≤ length (put out 0 (findings t date book (timesOn t rs)))
 written-room t rs date book out h =
     let long = findings-list t rs date book .long in
     omega (arith, length-put out 0 (findings t date book (timesOn t rs)) (omega (arith, found-fits t (timesOn t rs) (length out) h)))
 
-full-out : (p : Paper) (course : Course) (c : Step) → 49152 ≤ length (p .out) → ((out : List ℕ) → c ≡ lendFindings out → 49152 ≤ length out)
-    → 49152 ≤ length (rule p course c .after .out)
-unfolding rule openRuled takeRuled endRuled
+full-out : (p : Paper) (course : Course) (c : Step) → 49152 ≤ length (p .out) → roomy c ≡ true → 49152 ≤ length (rule p course c .after .out)
+unfolding rule openRuled takeRuled endRuled roomy
 full-out p course (makeBook rulebook) h l = h
 full-out p course (askBook group kind family) h l = h
-full-out p course (lendFindings out) h l = l out refl
+full-out p course (lendFindings out) h l = leb-true 49152 (length out) l
 full-out p idle (openDay log) h l = out-of _ _ p h h
 full-out p idle (takeRecord row) h l = h
 full-out p idle (endDay row) h l = h
@@ -139,23 +138,23 @@ AcceptedBy p (c ∷ cs) = (refusal p (p .course) c ≡ 0) × AcceptedBy (rule p 
 -- the two ways in which a run is fair, on the papers
 pub data Fits (p p′ : Paper) (cs : List Step) : Type 0 where
   accepted : AcceptedBy p cs → 12288 ≤ p′ .room → Fits p p′ cs
-  roomy : 49152 ≤ length (p .out) → Roomy cs → p′ .room ≡ p .room → Fits p p′ cs
+  full-size : 49152 ≤ length (p .out) → allRoomy cs ≡ true → p′ .room ≡ p .room → Fits p p′ cs
 
 -- and of one step
 data Fit (p p′ : Paper) (c : Step) : Type 0 where
   accepted : refusal p (p .course) c ≡ 0 → 12288 ≤ p′ .room → Fit p p′ c
-  roomy : 49152 ≤ length (p .out) → p′ .room ≡ p .room → Fit p p′ c
+  full-size : 49152 ≤ length (p .out) → p′ .room ≡ p .room → Fit p p′ c
 
 fit-first : {p p′ : Paper} {c : Step} {cs : List Step} → Fits p p′ (c ∷ cs) → Fit p p′ c
 unfolding AcceptedBy
 fit-first (accepted y n) = accepted (y .0) n
-fit-first (roomy h r n) = roomy h n
+fit-first (full-size h r n) = full-size h n
 
 fit-rest : {p p′ : Paper} {c : Step} {cs : List Step} (c′ : Step) → Fits p p′ (c ∷ cs) → Fits (rule p (p .course) c .after) (rule p′ (p′ .course) c′ .after) cs
-unfolding AcceptedBy
+unfolding AcceptedBy allRoomy
 fit-rest {p} {p′} {c} c′ (accepted y n) = accepted (y .1) (omega (arith, same-room p′ (p′ .course) c′))
-fit-rest {p} {p′} {c} c′ (roomy h (more-lent l r) n) =
-    roomy (full-out p (p .course) c h l) r (same-room p′ (p′ .course) c′ ∙ n ∙ sym (same-room p (p .course) c))
+fit-rest {p} {p′} {c} {cs} c′ (full-size h r n) =
+    full-size (full-out p (p .course) c h (and-left (roomy c) (allRoomy cs) r)) (and-right (roomy c) (allRoomy cs) r) (same-room p′ (p′ .course) c′ ∙ n ∙ sym (same-room p (p .course) c))
 
 -- ---- side by side
 pub data Twin (a b : ℕ) : Course → Course → Type 0 where
@@ -190,7 +189,7 @@ module _ (a b : ℕ) (two : Two a b) where
   room-same {p} {p′} {log} (accepted e n) i =
       let z : handedFault log (p .book) (p .room) ≡ 0 = subst (λ (x : Course). refusal p x (openDay log) ≡ 0) i e in
       sym (pick-no _ _ _ _ (le-ltb (p′ .room) 12288 n) refl) ∙ pick-no _ _ _ _ (le-ltb (p .room) 12288 (room-there log (p .book) (p .room) z)) refl
-  room-same (roomy h n) i = ap (λ (x : ℕ). pick (ltb x 12288) 16 0) n
+  room-same (full-size h n) i = ap (λ (x : ℕ). pick (ltb x 12288) 16 0) n
 
   -- taking: by the tables alone
   pub take-same : (log : List ℕ) (rs : List Record) (row : List ℕ) → logFault log ≡ 0 → takeNumber (joinLog a b log) rs row ≡ takeNumber log rs row
@@ -224,7 +223,7 @@ module _ (a b : ℕ) (two : Two a b) where
   end-room : {p p′ : Paper} (log : List ℕ) (rs : List Record) (row : List ℕ) → Fit p p′ (endDay row) → p .course ≡ during log rs → short log rs (length (p .out)) ≡ 0
   unfolding refusal
   end-room {p} log rs row (accepted e n) i = end-fits log rs row (p .book) (length (p .out)) (subst (λ (x : Course). refusal p x (endDay row) ≡ 0) i e)
-  end-room {p} log rs row (roomy h n) i = not-short log rs (length (p .out)) h
+  end-room {p} log rs row (full-size h n) i = not-short log rs (length (p .out)) h
 
   end-allows : (log : List ℕ) (rs : List Record) (row book : List ℕ) (room : ℕ) → endRefusal log rs row book room ≡ 0 → bookFault (headerOf log) book ≡ 0
   unfolding endRefusal
@@ -335,10 +334,10 @@ module _ (a b : ℕ) (two : Two a b) where
     pub opened : Twin a b (lastOpened p last cs) (lastOpened p′ last′ cs′)
 
   pub runs : (p p′ : Paper) (h h′ : History) (last last′ : Course) (cs cs′ : List Step) → Beside a b p p′ h h′ → Twin a b last last′ → StepsJoined a b cs cs′
-      → Fits p p′ cs → 49152 ≤ length (p′ .out) → Roomy cs′ → Runs p p′ h h′ last last′ cs cs′
-  unfolding numbersOn rules paperAfter history lastOpened
+      → Fits p p′ cs → 49152 ≤ length (p′ .out) → allRoomy cs′ ≡ true → Runs p p′ h h′ last last′ cs cs′
+  unfolding numbersOn rules paperAfter history lastOpened allRoomy
   runs p p′ h h′ last last′ [] _ s t none f l m = record { numbers = refl; after = s; opened = t }
-  runs p p′ h h′ last last′ (c ∷ cs) (c′ ∷ cs′) s t (more j js) f l (more-lent m ms) =
+  runs p p′ h h′ last last′ (c ∷ cs) (c′ ∷ cs′) s t (more j js) f l m =
       let g = again p p′ h h′ c c′ s j (fit-first f) l in
-      let r = runs _ _ _ _ _ _ cs cs′ (g .after) (twin-latest (g .after .course) t) js (fit-rest c′ f) (full-out p′ (p′ .course) c′ l m) ms in
+      let r = runs _ _ _ _ _ _ cs cs′ (g .after) (twin-latest (g .after .course) t) js (fit-rest c′ f) (full-out p′ (p′ .course) c′ l (and-left (roomy c′) (allRoomy cs′) m)) (and-right (roomy c′) (allRoomy cs′) m) in
       record { numbers = ap₂ {C = List ℕ} (λ x xs. x ∷ xs) (number-is p′ (p′ .course) c′ ∙ g .number ∙ sym (number-is p (p .course) c)) (r .numbers); after = r .after; opened = r .opened }

@@ -25,3 +25,4 @@ pub mod Demand3
 pub mod SampleLaws
 pub mod Starred
 pub mod Worked
+pub mod WorkedYear

@@ -158,7 +158,7 @@ module _ (log book out : List ℕ) (room : ℕ) (b : bookFault (headerOf log) bo
       record { same = sym (or-else (rowFault (dayIn log rs) row) 1 f) ∙ rows-end log rs row (next ∷ more) e t; written = λ z. absurd (omega arith) }
 
 -- the whole of it, from the clerk's desk
-clerk-rests : (book : List ℕ) → Stands (clerkDesk book) (paper idle book (replicate 49152 0) cells)
+pub clerk-rests : (book : List ℕ) → Stands (clerkDesk book) (paper idle book (replicate 49152 0) cells)
 clerk-rests book = rest (length-replicate {A = ℕ} cells 0)
 
 pub judges : {n : ℕ} {w : Desk} (book log : List ℕ) → Judges book log n w

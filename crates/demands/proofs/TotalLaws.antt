@@ -122,6 +122,10 @@ pub blank-rulebook : (rulebook : ℕ) → rulebookOf (blank rulebook) ≡ rulebo
 unfolding blank
 blank-rulebook rulebook = rulebook-of-book rulebook 0 (λ l. 0)
 
+pub blank-date : (rulebook : ℕ) → lastDate (blank rulebook) ≡ 0
+unfolding blank
+blank-date rulebook = date-of-book rulebook 0 (λ l. 0) (omega arith)
+
 pub blank-carries : (rulebook y l : ℕ) → l < 6144 → carried (blank rulebook) y l ≡ 0
 unfolding carried blank
 blank-carries rulebook y l h =

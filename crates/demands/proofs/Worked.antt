@@ -42,15 +42,16 @@ use Rattle.demands.specs.Counts.{howMany, timesOf, timesOn}
 use Rattle.demands.specs.Samples.{bookWithOne}
 use Rattle.demands.specs.Calls.{Step, openDay, takeRecord, endDay, abandonDay, lendFindings, Reply, ended, numberIn}
 use Rattle.demands.specs.Paper.{idle, during, Paper, dayIn, takeNumber, endRefusal, openRuled, takeRuled, endRuled, rule, rules, numbersOn, paperAfter}
-use Rattle.demands.specs.Worked.{workedTables, tradeOn, tradeRow, endRow, workedBook, workedDesk, workedTrades, workedSteps, workedFinding, foundIn, Worked, noBook, wrongMark, noBookSteps, justOpened, openSteps, shortOut, shortOutSteps, Refusals}
-use Rattle.demands.proofs.CallLaws.{paper, Stands, rest, stands-book, stands-out, runs-read, runs-stand}
+use Rattle.demands.specs.Worked.{tablesFor, workedTables, tradeOn, tradeRow, endRow, workedBook, workedDesk, workedTrades, wholeDay, workedSteps, workedFinding, foundIn, Worked, noBook, wrongMark, noBookSteps, justOpened, openSteps, shortOut, shortOutSteps, Refusals}
+use Rattle.demands.proofs.CallLaws.{paper, stands-book, stands-out, runs-read, runs-stand}
 use Rattle.demands.proofs.NumberLaws.{refusal, number-is}
 use Rattle.demands.proofs.Answers.{answers}
+use Rattle.demands.proofs.LogLaws.{clerk-rests}
 use Rattle.demands.proofs.SampleLaws.{one, one-rulebook, one-date, one-total, one-sound}
 
 -- ---- one list of steps after another
 -- what is read in each answer
-abbrev readOn : (Reply → ℕ) → Paper → List Step → List ℕ
+abbrev pub readOn : (Reply → ℕ) → Paper → List Step → List ℕ
 readOn read p cs = map (λ r. read (r .reply)) (rules p cs)
 
 read-two : (read : Reply → ℕ) (p : Paper) (cs ds : List Step) → readOn read p (cs ++ ds) ≡ readOn read p cs ++ readOn read (paperAfter p cs) ds
@@ -64,10 +65,10 @@ after-two p [] ds = refl
 after-two p (c ∷ cs) ds = after-two (rule p (p .course) c .after) cs ds
 
 -- ---- a list of steps by the rules: its numbers, how many findings each step tells of, and the paper that it leaves
-record Goes (p : Paper) (cs : List Step) (ns ks : List ℕ) (q : Paper) : Type 0 where
-  numbers : numbersOn p cs ≡ ns
-  counts : readOn foundIn p cs ≡ ks
-  after : paperAfter p cs ≡ q
+pub record Goes (p : Paper) (cs : List Step) (ns ks : List ℕ) (q : Paper) : Type 0 where
+  pub numbers : numbersOn p cs ≡ ns
+  pub counts : readOn foundIn p cs ≡ ks
+  pub after : paperAfter p cs ≡ q
 
 -- one step
 goes-one : (p : Paper) (c : Step) (n k : ℕ) (q : Paper) → refusal p (p .course) c ≡ n → foundIn (rule p (p .course) c .reply) ≡ k
@@ -77,7 +78,7 @@ goes-one p c n k q e f g =
     record { numbers = ap (λ (i : ℕ). i ∷ []) (number-is p (p .course) c ∙ e); counts = ap (λ (i : ℕ). i ∷ []) f; after = g }
 
 -- one list after another
-goes-on : {p q r : Paper} {cs ds : List Step} {ns ms ks js : List ℕ} → Goes p cs ns ks q → Goes q ds ms js r
+pub goes-on : {p q r : Paper} {cs ds : List Step} {ns ms ks js : List ℕ} → Goes p cs ns ks q → Goes q ds ms js r
     → Goes p (cs ++ ds) (ns ++ ms) (ks ++ js) r
 unfolding numbersOn
 goes-on {p} {q} {r} {cs} {ds} g h = record {
@@ -85,6 +86,41 @@ goes-on {p} {q} {r} {cs} {ds} g h = record {
   counts = read-two foundIn p cs ds ∙ ap₂ (λ (a b : List ℕ). a ++ b) (g .counts) (ap (λ (x : Paper). readOn foundIn x ds) (g .after) ∙ h .counts);
   after = after-two p cs ds ∙ ap (λ (x : Paper). paperAfter x ds) (g .after) ∙ h .after;
 }
+
+-- ---- a day opened and ended, on any tables that have no fault and any book that fits
+pub book-fits : (h : Header) (book : List ℕ) → sound book ≡ true → rulebookOf book ≡ h .rulebook → lastDate book < h .date → bookFault h book ≡ 0
+unfolding bookFault
+book-fits h book good same later =
+    sym
+    (pick-no _ _ 17 _ (flip-no _ good)
+    (pick-no _ _ 18 _ (flip-no _ (eq-eqb _ _ same))
+    (pick-no _ _ 9 _ (lt-leb _ _ later) refl)))
+
+room-good : roomFault 12288 ≡ 0
+unfolding roomFault pick
+room-good = refl
+
+pub opens : (log book out : List ℕ) → logFault log ≡ 0 → bookFault (headerOf log) book ≡ 0
+    → Goes (paper idle book out 12288) (openDay log ∷ []) (0 ∷ []) (0 ∷ []) (paper (during log []) book out 12288)
+unfolding refusal rule openRuled handedFault
+opens log book out e f =
+    let z : handedFault log book 12288 ≡ 0 = or-else (logFault log) _ e ∙ or-else (bookFault (headerOf log) book) _ f ∙ room-good in
+    goes-one _ _ 0 0 _ z refl (sym (pick-yes _ _ _ _ (eq-eqb _ 0 z) refl))
+
+module _ (log : List ℕ) (rs : List Record) (book out : List ℕ) where
+  -- what an accepted end leaves
+  abbrev pub endPaper : Paper
+  endPaper =
+      let t = tablesOf log in
+      let date = headerOf log .date in
+      paper idle (bookAfter t date book (timesOn t rs)) (put out 0 (findings t date book (timesOn t rs))) 12288
+
+  pub closes : (row : List ℕ) → endRefusal log rs row book (length out) ≡ 0
+      → Goes (paper (during log rs) book out 12288) (endDay row ∷ []) (0 ∷ []) (foundCount (tablesOf log) (timesOn (tablesOf log) rs) ∷ []) endPaper
+  unfolding refusal rule endRuled
+  closes row e =
+      let z = eq-eqb _ 0 e in
+      goes-one _ _ 0 _ _ e (ap (λ a. foundIn (ended a)) (sym (pick-yes _ _ _ _ z refl))) (sym (pick-yes _ _ _ _ z refl))
 
 -- ---- the example's day
 -- the records that it took, the latest first
@@ -102,18 +138,18 @@ worked-times = timesOn day workedRecords
 
 -- its header, and no fault in its tables
 head-is : (headerOf workedTables .rulebook ≡ 1) × (headerOf workedTables .date ≡ 20240305)
-unfolding headerOf le workedTables
+unfolding headerOf le workedTables tablesFor
 head-is = (refl, refl)
 
 log-good : logFault workedTables ≡ 0
-unfolding workedTables logFault headFault tablesFault headerOf contractsGood accountsGood contractAt accountAt idBefore numberBefore realDay monthDays every le pick
+unfolding workedTables tablesFor logFault headFault tablesFault headerOf contractsGood accountsGood contractAt accountAt idBefore numberBefore realDay monthDays every le pick
 log-good = refl
 
 -- on any book and buffers, every trade is taken
 trades-go : (book out : List ℕ) (room : ℕ)
     → Goes (paper (during workedTables []) book out room) workedTrades (0 ∷ 0 ∷ 0 ∷ 0 ∷ 0 ∷ []) (0 ∷ 0 ∷ 0 ∷ 0 ∷ 0 ∷ [])
     (paper (during workedTables workedRecords) book out room)
-unfolding workedTrades workedRecords workedTables tradeOn numbersOn rules paperAfter rule takeRuled takeNumber tableFault hasContract hasAccount contractOf accountOf recordGood recordOf answered tablesOf tablesIn headerOf contractAt accountAt first le orElse pick
+unfolding workedTrades workedRecords workedTables tablesFor tradeOn numbersOn rules paperAfter rule takeRuled takeNumber tableFault hasContract hasAccount contractOf accountOf recordGood recordOf answered tablesOf tablesIn headerOf contractAt accountAt first le orElse pick
 trades-go book out room = record { numbers = refl; counts = refl; after = refl }
 
 -- ---- which ladders have an offence: that of group 3, kind 1, family 0 alone, `ladderOf 3 1 0`, which is 96
@@ -125,7 +161,7 @@ test-is false false e = refl
 
 -- computed for each of the 6,144
 one-tested : every (λ l. pick (eqb l 96) (offendsOn day worked-times l) (not (offendsOn day worked-times l))) 6144 ≡ true
-unfolding workedRecords workedTables tradeOn offendsOn lowestOn lowest reachedAt familyOf timesOn timesOf howMany countsFor counted planOf planFor groupOf hasAccount contractOf accountOf recordOf tablesOf tablesIn headerOf contractAt accountAt family enough exempt known byThree first every le pick
+unfolding workedRecords workedTables tablesFor tradeOn offendsOn lowestOn lowest reachedAt familyOf timesOn timesOf howMany countsFor counted planOf planFor groupOf hasAccount contractOf accountOf recordOf tablesOf tablesIn headerOf contractAt accountAt family enough exempt known byThree first every le pick
 one-tested = refl
 
 one-hit : (l : ℕ) → l < 6144 → offendsOn day worked-times l ≡ eqb l 96
@@ -171,7 +207,7 @@ book-is = book-cong (day .rulebook) 1 20240305 (totalAfter day 20240305 before w
 -- ---- the one finding
 -- computed, with the total in hand: 12,304 bytes of book are too many
 text-is : finding 96 (sanction (day .rulebook) (rung 2) (memberOn day 3)) 2 (day .contract (lowestOn day worked-times 96) .id) ≡ workedFinding
-unfolding workedFinding workedRecords workedTables tradeOn finding bytes sanction rung memberOn lowestOn lowest reachedAt familyOf timesOn timesOf howMany countsFor counted planOf planFor groupOf hasAccount contractOf accountOf recordOf tablesOf tablesIn headerOf contractAt accountAt family enough exempt known byThree first some every le pick
+unfolding workedFinding workedRecords workedTables tablesFor tradeOn finding bytes sanction rung memberOn lowestOn lowest reachedAt familyOf timesOn timesOf howMany countsFor counted planOf planFor groupOf hasAccount contractOf accountOf recordOf tablesOf tablesIn headerOf contractAt accountAt family enough exempt known byThree first some every le pick
 text-is = refl
 
 found-is : (l : ℕ) → l < 6144 → foundAt day 20240305 before worked-times l ≡ pick (eqb l 96) workedFinding []
@@ -192,15 +228,7 @@ findings-are : findings day 20240305 before worked-times ≡ workedFinding
 unfolding findings
 findings-are = rows-cong _ _ 6144 found-is ∙ one-row
 
--- ---- the day opened
-book-fits : (h : Header) (book : List ℕ) → sound book ≡ true → rulebookOf book ≡ h .rulebook → lastDate book < h .date → bookFault h book ≡ 0
-unfolding bookFault
-book-fits h book good same later =
-    sym
-    (pick-no _ _ 17 _ (flip-no _ good)
-    (pick-no _ _ 18 _ (flip-no _ (eq-eqb _ _ same))
-    (pick-no _ _ 9 _ (lt-leb _ _ later) refl)))
-
+-- ---- the book on which the day is opened
 before-sound : sound before ≡ true
 unfolding realDay monthDays daysIn dayNumber pick
 before-sound = one-sound 96 20240304 1 (omega arith) refl (omega arith) refl
@@ -210,28 +238,20 @@ book-good =
     book-fits (headerOf workedTables) before before-sound (one-rulebook 96 20240304 1 ∙ sym (head-is .0))
     (omega (arith, one-date 96 20240304 1 (omega arith), head-is .1))
 
-room-good : roomFault 12288 ≡ 0
-unfolding roomFault pick
-room-good = refl
-
-open-good : handedFault workedTables before 12288 ≡ 0
-unfolding handedFault
-open-good = or-else (logFault workedTables) _ log-good ∙ or-else (bookFault (headerOf workedTables) before) _ book-good ∙ room-good
-
-opens : (out : List ℕ) → Goes (paper idle before out 12288) (openDay workedTables ∷ []) (0 ∷ []) (0 ∷ []) (paper (during workedTables []) before out 12288)
-unfolding refusal rule openRuled
-opens out = goes-one _ _ 0 0 _ open-good refl (sym (pick-yes _ _ _ _ (eq-eqb _ 0 open-good) refl))
-
 -- ---- the day ended: 20 where the buffer has no room for the finding
-row-good : (length (endRow 5) ≡ 20) × (rowFault (dayIn workedTables workedRecords) (endRow 5) ≡ 0)
+pub row-long : length (endRow 5) ≡ 20
+unfolding endRow
+row-long = refl
+
+row-good : rowFault (dayIn workedTables workedRecords) (endRow 5) ≡ 0
 unfolding workedRecords endRow rowFault endGood le pick
-row-good = (refl, refl)
+row-good = refl
 
 end-is : (room : ℕ) → endRefusal workedTables workedRecords (endRow 5) before room ≡ pick (ltb room 8) 20 0
 unfolding endRefusal
 end-is room =
-    sym (pick-no _ _ 1 _ (flip-no _ (eq-eqb _ 20 (row-good .0))) refl)
-    ∙ or-else (rowFault (dayIn workedTables workedRecords) (endRow 5)) _ (row-good .1)
+    sym (pick-no _ _ 1 _ (flip-no _ (eq-eqb _ 20 row-long)) refl)
+    ∙ or-else (rowFault (dayIn workedTables workedRecords) (endRow 5)) _ row-good
     ∙ or-else (bookFault (headerOf workedTables) before) _ book-good
     ∙ ap (λ (n : ℕ). pick (ltb room (8 * n)) 20 0) found-one
 
@@ -244,12 +264,9 @@ module _ (out : List ℕ) where
   closed = paper idle (workedBook 20240305 2) (put out 0 workedFinding) 12288
 
   ends : ltb (length out) 8 ≡ false → Goes taken (endDay (endRow 5) ∷ []) (0 ∷ []) (1 ∷ []) closed
-  unfolding refusal rule endRuled
   ends h =
-      let e = end-is (length out) ∙ sym (pick-no _ _ 20 0 h refl) in
-      goes-one _ _ 0 1 _ e (ap (λ a. foundIn (ended a)) (sym (pick-yes _ _ _ _ (eq-eqb _ 0 e) refl)) ∙ found-one)
-      (sym (pick-yes _ _ _ _ (eq-eqb _ 0 e) refl)
-      ∙ rw (head-is .1) (ap₂ (λ (b f : List ℕ). paper idle b (put out 0 f) 12288) book-is findings-are))
+      rw (found-one, head-is .1, book-is, findings-are) at
+      (closes workedTables workedRecords before out (endRow 5) (end-is (length out) ∙ sym (pick-no _ _ 20 0 h refl)))
 
   no-room : ltb (length out) 8 ≡ true → Goes taken (endDay (endRow 5) ∷ []) (20 ∷ []) (0 ∷ []) taken
   unfolding refusal rule endRuled
@@ -260,15 +277,15 @@ module _ (out : List ℕ) where
 
 -- ---- the example
 worked-goes : (out : List ℕ) → ltb (length out) 8 ≡ false → Goes (paper idle before out 12288) workedSteps (0 ∷ 0 ∷ 0 ∷ 0 ∷ 0 ∷ 0 ∷ 0 ∷ []) (0 ∷ 0 ∷ 0 ∷ 0 ∷ 0 ∷ 0 ∷ 1 ∷ []) (closed out)
-unfolding workedSteps
-worked-goes out h = goes-on (opens out) (goes-on (trades-go before out 12288) (ends out h))
+unfolding workedSteps wholeDay
+worked-goes out h = goes-on (opens workedTables before out log-good book-good) (goes-on (trades-go before out 12288) (ends out h))
 
 pub worked : Worked
 unfolding numbersOn
 worked =
     let all = answers workedDesk workedSteps in
     let out : List ℕ = replicate 49152 0 in
-    let s : Stands workedDesk (paper idle before out 12288) = rest (length-replicate {A = ℕ} 12288 0) in
+    let s = clerk-rests before in
     let g = worked-goes out (ap (λ (n : ℕ). ltb n 8) (length-replicate {A = ℕ} 49152 0)) in
     let r = runs-stand s (all .ran) in
     record {
@@ -283,11 +300,11 @@ worked =
 -- ---- the refusals between
 -- computed, as the book has no bytes; and as no call here comes to the book
 no-book : numbersOn noBook noBookSteps ≡ 10 ∷ 10 ∷ 10 ∷ 17 ∷ 4 ∷ 17 ∷ 2 ∷ 17 ∷ []
-unfolding noBook noBookSteps wrongMark workedTables numbersOn rules rule openRuled handedFault bookFault roomFault sound logFault headFault tablesFault headerOf contractsGood accountsGood contractAt accountAt idBefore numberBefore realDay monthDays freshAnswer freshFault freshBook askAnswer askFault answered every le orElse pick
+unfolding noBook noBookSteps wrongMark workedTables tablesFor numbersOn rules rule openRuled handedFault bookFault roomFault sound logFault headFault tablesFault headerOf contractsGood accountsGood contractAt accountAt idBefore numberBefore realDay monthDays freshAnswer freshFault freshBook askAnswer askFault answered every le orElse pick
 no-book = refl
 
 day-open : (p : Paper) → numbersOn (justOpened p) openSteps ≡ 10 ∷ 1 ∷ 11 ∷ 12 ∷ 13 ∷ 0 ∷ 15 ∷ 0 ∷ 10 ∷ []
-unfolding justOpened openSteps workedTables tradeOn endRow numbersOn rules rule takeRuled takeNumber endRuled endRefusal rowFault endGood tableFault hasContract hasAccount contractOf accountOf recordGood recordOf answered tablesOf tablesIn headerOf contractAt accountAt first le orElse pick
+unfolding justOpened openSteps workedTables tablesFor tradeOn endRow numbersOn rules rule takeRuled takeNumber endRuled endRefusal rowFault endGood tableFault hasContract hasAccount contractOf accountOf recordGood recordOf answered tablesOf tablesIn headerOf contractAt accountAt first le orElse pick
 day-open p = refl
 
 -- the trades with a record of type 3 between
@@ -295,7 +312,7 @@ trades-refused : (book out : List ℕ) (room : ℕ)
     → Goes (paper (during workedTables []) book out room)
     (takeRecord (tradeRow 11 12) ∷ takeRecord (tradeRow 11 12) ∷ takeRecord (endRow 2) ∷ takeRecord (tradeRow 11 12) ∷ takeRecord (tradeRow 11 12) ∷ takeRecord (tradeRow 12 12) ∷ [])
     (0 ∷ 0 ∷ 11 ∷ 0 ∷ 0 ∷ 0 ∷ []) (0 ∷ 0 ∷ 0 ∷ 0 ∷ 0 ∷ 0 ∷ []) (paper (during workedTables workedRecords) book out room)
-unfolding workedRecords workedTables tradeOn endRow numbersOn rules paperAfter rule takeRuled takeNumber tableFault hasContract hasAccount contractOf accountOf recordGood recordOf answered tablesOf tablesIn headerOf contractAt accountAt first le orElse pick
+unfolding workedRecords workedTables tablesFor tradeOn endRow numbersOn rules paperAfter rule takeRuled takeNumber tableFault hasContract hasAccount contractOf accountOf recordGood recordOf answered tablesOf tablesIn headerOf contractAt accountAt first le orElse pick
 trades-refused book out room = record { numbers = refl; counts = refl; after = refl }
 
 lends : (p : Paper) (out : List ℕ) → Goes p (lendFindings out ∷ []) (0 ∷ []) (0 ∷ []) (paper (p .course) (p .book) out (p .room))
@@ -311,7 +328,7 @@ short-goes : Goes shortOut shortOutSteps (0 ∷ 0 ∷ 0 ∷ 11 ∷ 0 ∷ 0 ∷ 0
 unfolding shortOut shortOutSteps
 short-goes =
     let short : List ℕ = replicate 7 0 in
-    goes-on (opens short)
+    goes-on (opens workedTables before short log-good book-good)
     (goes-on (trades-refused before short 12288)
     (goes-on (no-room short refl)
     (goes-on (lends (taken short) (replicate 8 0)) (goes-on (ends (replicate 8 0) refl) (abandon-refused _ _ 12288)))))

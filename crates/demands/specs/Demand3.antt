@@ -3,9 +3,10 @@
 -- for lists of calls and for day logs; proofs/Demand3 has the theorems under the same names.
 use mathlib.Core.Path.{_≡_}
 use mathlib.Core.Logic.{_⊎_}
-use mathlib.Core.Bool.{true}
+use mathlib.Core.Bool.{Bool, true, _&&_}
 use mathlib.Core.List.{List, [], _∷_, map}
 use Prim.Native.Nat.{ℕ, _+_, _≤_, _<_}
+use lib.Dec.{leb}
 use lib.ListN.{length}
 use Rattle.calendar.specs.Dates.{year}
 use Rattle.book.specs.Layout.{ladders, ladderOf, totalAt}
@@ -105,11 +106,19 @@ pub data StepsJoined (a b : ℕ) : List Step → List Step → Type 0 where
 abbrev pub fullRoom : ℕ
 fullRoom = 49152
 
--- every findings buffer that is lent has that room, whatever its bytes
-pub data Roomy : List Step → Type 0 where
-  none : Roomy []
-  more : {c : Step} {cs : List Step} → ((out : List ℕ) → c ≡ lendFindings out → fullRoom ≤ length out)
-      → Roomy cs → Roomy (c ∷ cs)
+-- a findings buffer that is lent has that room, whatever its bytes; a call lends none
+unfoldable pub roomy : Step → Bool
+roomy (lendFindings out) = leb fullRoom (length out)
+roomy (makeBook rulebook) = true
+roomy (openDay log) = true
+roomy (takeRecord row) = true
+roomy (endDay row) = true
+roomy abandonDay = true
+roomy (askBook group kind family) = true
+
+unfoldable pub allRoomy : List Step → Bool
+allRoomy [] = true
+allRoomy (c ∷ cs) = roomy c && allRoomy cs
 
 -- every call was accepted
 pub data Accepted : List Given → Type 0 where
@@ -120,7 +129,8 @@ pub data Accepted : List Given → Type 0 where
 -- any length; or they have full room too and the counts are of one length, and any calls may have been refused
 pub data Fair (w w′ : Desk) (cs : List Step) (gs : List Given) : Type 0 where
   accepted : Accepted gs → cells ≤ length (w′ .counts) → Fair w w′ cs gs
-  roomy : fullRoom ≤ length (w .out) → Roomy cs → length (w′ .counts) ≡ length (w .counts) → Fair w w′ cs gs
+  full-size : fullRoom ≤ length (w .out) → allRoomy cs ≡ true → length (w′ .counts) ≡ length (w .counts)
+      → Fair w w′ cs gs
 
 -- a run from a fresh book, with no day open
 pub record FreshRun (rulebook : ℕ) (w : Desk) (cs : List Step) (gs : List Given) : Type 0 where
@@ -135,7 +145,7 @@ pub record Run (a b rulebook : ℕ) (w w′ : Desk) (cs cs′ : List Step) (gs g
   pub joined : FreshRun rulebook w′ cs′ gs′
   pub steps : StepsJoined a b cs cs′
   pub out : fullRoom ≤ length (w′ .out)
-  pub lent : Roomy cs′
+  pub lent : allRoomy cs′ ≡ true
   pub fair : Fair w w′ cs gs
 
 -- the lent counts of the two runs, on the day last opened: its cells add

@@ -15,8 +15,9 @@ use Rattle.demands.specs.Join.{Joined}
 use Rattle.demands.specs.Restrictions.{sanctions, restrictions}
 use Rattle.demands.specs.Demand3.{InYear}
 
--- ---- the days rulebook 1 and one futures contract, 101; account 11, a client, in a group; account 12, a non-broker
--- member, in group 2
+-- ---- the days
+-- rulebook 1 and one futures contract, 101; account 11, a client, in a group, and account 12, a non-broker member, in
+-- group 2
 unfoldable pub tablesWith : (group : ℕ) → Tables
 tablesWith group = record {
   rulebook = 1;

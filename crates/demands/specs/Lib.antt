@@ -14,5 +14,6 @@ pub mod Samples
 pub mod Example
 pub mod Starred
 pub mod Worked
+pub mod WorkedYear
 pub mod Tied
 pub mod Promised

@@ -6,6 +6,7 @@ use Rattle.demands.specs.Demand3.{NothingLost, NothingLostInLogs}
 use Rattle.demands.specs.Example.{WhyThreeOrFive}
 use Rattle.demands.specs.Starred.{Starred}
 use Rattle.demands.specs.Worked.{Worked, Refusals}
+use Rattle.demands.specs.WorkedYear.{WorkedYear}
 
 pub record Promised : Type 0 where
   -- demand 1
@@ -35,7 +36,8 @@ pub record Promised : Type 0 where
   pub nothing-lost : NothingLost
   pub nothing-lost-in-logs : NothingLostInLogs
   pub why-three-or-five : WhyThreeOrFive
-  -- the starred table, and the worked example
+  -- the starred table, document 01's example, refusals between, and a small joined year
   pub starred-hold : Starred
   pub worked : Worked
   pub refusals : Refusals
+  pub worked-year : WorkedYear

@@ -56,8 +56,8 @@ plainLimit = 1
 abbrev pub countable : ℕ → ℕ
 countable rulebook = pick (eqb rulebook 1) plainLimit 5
 
--- ---- what is asked of them: are these records an offence of group 3 in family 0 (kind 1 self-trade, 2 frequent, 3
--- large) n self-trades on a contract
+-- ---- what is asked of them: are these records an offence of group 3 in family 0 (1 self-trade, 2 frequent, 3 large)
+-- n self-trades on a contract
 unfoldable pub selfTrades : (rulebook n : ℕ) → Bool
 selfTrades rulebook n = offence (dayWith rulebook 1 1000) (replicate n trade) 3 1 0
 

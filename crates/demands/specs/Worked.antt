@@ -15,21 +15,24 @@ use Rattle.demands.specs.Logs.{clerkDesk}
 use Rattle.demands.specs.Paper.{idle, during, Paper, numbersOn, paperAfter}
 
 -- ---- the bytes
--- the header of 16 bytes, a contract entry and two account entries of 8 bytes each: 40 bytes
-unfoldable pub workedTables : List ℕ
-workedTables =
-    -- the mark "AXD"; "rulebook 1"; version 1
-    0x41 ∷ 0x58 ∷ 0x44 ∷ 0x01 ∷ 0x01 ∷ 0x00
-    -- "5 March 2024": 20240305 is 0x0134D7B1
-    ∷ 0xB1 ∷ 0xD7 ∷ 0x34 ∷ 0x01
+-- the header of 16 bytes, a contract entry and two account entries of 8 bytes each: 40 bytes. The date is given by its
+-- 4 bytes, and the groups are those of accounts 11 and 12
+unfoldable pub tablesFor : (date : List ℕ) (group11 group12 : ℕ) → List ℕ
+tablesFor date group11 group12 =
+    -- the mark "AXD"; "rulebook 1"; version 1; the date
+    0x41 ∷ 0x58 ∷ 0x44 ∷ 0x01 ∷ 0x01 ∷ 0x00 ∷ (date ++ (
     -- one contract, two accounts, two zero bytes
-    ∷ 0x01 ∷ 0x00 ∷ 0x02 ∷ 0x00 ∷ 0x00 ∷ 0x00
+    0x01 ∷ 0x00 ∷ 0x02 ∷ 0x00 ∷ 0x00 ∷ 0x00
     -- "contract 101 (futures)", of product 0; the largest order is 1000 lots, 0x03E8
     ∷ 0x65 ∷ 0x00 ∷ 0x01 ∷ 0x00 ∷ 0xE8 ∷ 0x03 ∷ 0x00 ∷ 0x00
-    -- "accounts 11 and 12 as clients in group 3"
-    ∷ 0x0B ∷ 0x00 ∷ 0x00 ∷ 0x00 ∷ 0x03 ∷ 0x01 ∷ 0x00 ∷ 0x00
-    ∷ 0x0C ∷ 0x00 ∷ 0x00 ∷ 0x00 ∷ 0x03 ∷ 0x01 ∷ 0x00 ∷ 0x00
-    ∷ []
+    -- "accounts 11 and 12 as clients" in their groups
+    ∷ 0x0B ∷ 0x00 ∷ 0x00 ∷ 0x00 ∷ group11 ∷ 0x01 ∷ 0x00 ∷ 0x00
+    ∷ 0x0C ∷ 0x00 ∷ 0x00 ∷ 0x00 ∷ group12 ∷ 0x01 ∷ 0x00 ∷ 0x00
+    ∷ []))
+
+-- "5 March 2024": 20240305 is 0x0134D7B1; both accounts "in group 3"
+unfoldable pub workedTables : List ℕ
+workedTables = tablesFor (0xB1 ∷ 0xD7 ∷ 0x34 ∷ 0x01 ∷ []) 3 3
 
 -- a trade on a contract, of one lot: the first account buys and the second sells; "all plain limit and ordinary". The
 -- three numbers are below 256
@@ -56,20 +59,25 @@ endRow n = 0x03 ∷ 0x00 ∷ 0x00 ∷ 0x00 ∷ n ∷ replicate 15 0x00
 abbrev pub workedBook : (date total : ℕ) → List ℕ
 workedBook date total = bookWithOne (ladderOf 3 1 0) date total
 
--- ---- the calls the clerk's buffers with "the book's last date is 20240304 and group 3 has total 1 for kind 1 family
--- 0"; no day is open
+-- ---- the calls
+-- the clerk's buffers with "the book's last date is 20240304 and group 3 has total 1 for kind 1 family 0"; no day is
+-- open
 abbrev pub workedDesk : Desk
 workedDesk = clerkDesk (workedBook 20240304 1)
 
 -- "four trades 11 to 12 and one 12 to 12"
 unfoldable pub workedTrades : List Step
 workedTrades =
-    takeRecord (tradeRow 11 12) ∷ takeRecord (tradeRow 11 12) ∷ takeRecord (tradeRow 11 12) ∷ takeRecord (tradeRow 11 12)
-    ∷ takeRecord (tradeRow 12 12) ∷ []
+    takeRecord (tradeRow 11 12) ∷ takeRecord (tradeRow 11 12) ∷ takeRecord (tradeRow 11 12)
+    ∷ takeRecord (tradeRow 11 12) ∷ takeRecord (tradeRow 12 12) ∷ []
 
--- the day is opened, takes them, and is ended
+-- a day of five records: it is opened on its tables, takes what comes, and is ended
+unfoldable pub wholeDay : (tables : List ℕ) (trades : List Step) → List Step
+wholeDay tables trades = openDay tables ∷ (trades ++ (endDay (endRow 5) ∷ []))
+
+-- the example's day
 unfoldable pub workedSteps : List Step
-workedSteps = openDay workedTables ∷ (workedTrades ++ (endDay (endRow 5) ∷ []))
+workedSteps = wholeDay workedTables workedTrades
 
 -- "3 1 0 2 2 101", the line's group, kind, family, total, sanction and contract. In the buffer: group, kind, family and
 -- sanction, one byte each, then the total and the contract in 16 bits
@@ -124,7 +132,8 @@ openSteps =
     -- 10, a day is open
     openDay workedTables
     -- 1, a record of 19 bytes; 11, one of type 3; 12, contract 102; 13, account 13
-    ∷ takeRecord (take 19 (tradeRow 11 12)) ∷ takeRecord (endRow 0) ∷ takeRecord (tradeOn 102 11 12) ∷ takeRecord (tradeRow 11 13)
+    ∷ takeRecord (take 19 (tradeRow 11 12)) ∷ takeRecord (endRow 0)
+    ∷ takeRecord (tradeOn 102 11 12) ∷ takeRecord (tradeRow 11 13)
     -- one record, and 15, an end record that says two
     ∷ takeRecord (tradeRow 11 12) ∷ endDay (endRow 2)
     -- abandoned, and 10, none is open

@@ -5,6 +5,7 @@ use Rattle.demands.proofs.Demand3.{nothing-lost, nothing-lost-in-logs}
 use Rattle.demands.proofs.Example.{why-three-or-five}
 use Rattle.demands.proofs.Starred.{starred-hold}
 use Rattle.demands.proofs.Worked.{worked, refusals}
+use Rattle.demands.proofs.WorkedYear.{worked-year}
 use Rattle.demands.proofs.promised.Statement.{statement}
 use Rattle.demands.proofs.promised.Tie as tie
 
@@ -36,6 +37,7 @@ returns c = record {
   starred-hold = starred-hold;
   worked = worked;
   refusals = refusals;
+  worked-year = worked-year;
 }
 
 pub promised-spec : {M : Type 1} → statement M

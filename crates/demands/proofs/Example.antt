@@ -18,7 +18,6 @@ use Rattle.demands.specs.Counts.{howMany, timesOf, reachesOn, offence}
 use Rattle.demands.specs.Days.{offenceOn, offenceDays, carried, totalOver, blank}
 use Rattle.demands.specs.Join.{Joined, joined}
 use Rattle.demands.specs.Restrictions.{sanctionOn, sanctions}
-use Rattle.demands.specs.Demand3.{InYear, none, more}
 use Rattle.demands.specs.Example.{tablesWith, ownTrade, dayOf, daysWith, threeAlone, threeOrFive, WhyThreeOrFive}
 
 -- an entry's group: the first is account 11's, the others are in 2
@@ -39,10 +38,6 @@ tables-join = record {
   group = λ k. group-joins (eqb k 0);
 }
 
-one-year : InYear 2024 (daysWith 1)
-unfolding daysWith dayOf
-one-year = more refl (more refl (more refl none))
-
 -- the four numbers
 numbers : (threeAlone 1 (daysWith 1) ≡ 1) × (threeAlone 2 (daysWith 2) ≡ 0) × (threeOrFive 1 (daysWith 1) ≡ 1) × (threeOrFive 2 (daysWith 2) ≡ 1)
 unfolding threeAlone threeOrFive daysWith dayOf tablesWith ownTrade sanctions sanctionOn offenceDays offenceOn totalOver carried blank bookOf headOf le bytes offence reachesOn timesOf howMany memberOn familyOf countsFor counted planOf planFor groupOf hasAccount contractOf accountOf sanction rung family enough exempt known byThree first some every pick
@@ -50,7 +45,6 @@ numbers = (refl, refl, refl, refl)
 
 pub why-three-or-five : WhyThreeOrFive
 why-three-or-five = record {
-  in-year = one-year;
   joined = tables-join;
   three-before = numbers .0;
   three-after = numbers .1;

@@ -25,7 +25,7 @@ use Rattle.demands.specs.Counts.{howMany, timesOf, timesOn, offence}
 use Rattle.demands.specs.Days.{Ended, endedDay, lastOn, carried, totalOver, offenceOn, offenceDays, blank}
 use Rattle.demands.specs.Demand2.{History}
 use Rattle.demands.specs.Join.{joinLog, Joined, between}
-use Rattle.demands.specs.Demand3.{Two, Other, Added, DayJoined, DaysJoined, none, more, InYear, NoFewer, YearJoined}
+use Rattle.demands.specs.Demand3.{Two, Other, Added, DayJoined, DaysJoined, none, more, NoFewer, YearJoined}
 use Rattle.demands.proofs.TotalLaws.{OfRulebook, Kept, kept-day, ready, blank-carries}
 use Rattle.demands.proofs.Demand2.{Holds}
 use Rattle.demands.proofs.JoinTables.{joined-log}
@@ -211,10 +211,6 @@ module _ (a b : ℕ) (two : Two a b) (h h′ : History) (book book′ : List ℕ
       let e3 : familyAt (ladderOf g k f) ≡ f = omega arith in
       ap₂ (λ (x y : ℕ). offence (d .tables) (d .records) x y (familyAt (ladderOf g k f))) e1 e2 ∙ ap (offence (d .tables) (d .records) g k) e3
 
-  in-year : {y : ℕ} {days days′ : List Ended} → DaysJoined a b (h .from) days days′ → InYear y days → InYear y days′
-  in-year none none = none
-  in-year (more j rest) (more e i) = more (ap year (j .date) ∙ e) (in-year rest i)
-
   one-or-two : (n : ℕ) → 1 ≤ n → n ≤ 2 → (n ≡ 1) ⊎ (n ≡ 2)
   one-or-two zero low high = absurd (omega arith)
   one-or-two (suc zero) low high = inl refl
@@ -249,7 +245,7 @@ module _ (a b : ℕ) (two : Two a b) (h h′ : History) (book book′ : List ℕ
       ∙ stay d d′ j (sym (on-ladder g kind family low first last most d) ∙ o)) (s .days) in
       record {
         totals = rw (total-days lg there, joined-days lb there-b) (more-days lastYear);
-        restricted = λ y i. rw (third (h .from) y lg (s .nothing y lg there) (h .days) i (known-days (h .days) (s .kept .ours)), third (h .from) y lb (s .nothing y lb there-b) (h′ .days) (in-year (s .days) i) (known-days (h′ .days) (joined-kept .ours)))
+        restricted = λ y. rw (third (h .from) y lg (s .nothing y lg there) (h .days) (known-days (h .days) (s .kept .ours)), third (h .from) y lb (s .nothing y lb there-b) (h′ .days) (known-days (h′ .days) (joined-kept .ours)))
             (fewer _ _ (more-days y));
       }
 

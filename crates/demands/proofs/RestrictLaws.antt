@@ -1,7 +1,7 @@
 -- Opening restrictions on a ladder are a third of its offence days: the third, the sixth and so on have one each. Assumes nothing.
 use mathlib.Core.Path.{_≡_, refl}
 use mathlib.Core.Logic.{_⊎_, inl, inr}
-use mathlib.Core.Bool.{Bool, true, false}
+use mathlib.Core.Bool.{Bool, true, false, _&&_}
 use mathlib.Core.List.{List, [], _∷_}
 use Prim.Native.Nat.{ℕ, zero, suc, _+_, _/_, _%_, _≤_}
 use native.Mathlib.Nat.{suc-add, zero-add}
@@ -16,7 +16,6 @@ use Rattle.desk.specs.Offences.{groupAt}
 use Rattle.desk.specs.Findings.{memberOn}
 use Rattle.demands.specs.Counts.{howMany}
 use Rattle.demands.specs.Days.{Ended, offenceOn, offenceDays, carried, totalOver}
-use Rattle.demands.specs.Demand3.{InYear, more as year-more}
 use Rattle.demands.specs.Restrictions.{sanctionOn, noOpening, sanctions, restrictions}
 
 -- every day's rulebook is 1 or 2
@@ -73,19 +72,20 @@ step true m rulebook n k =
 
 -- ---- the days, on a book from which nothing is carried
 module _ (from : List ℕ) (y l : ℕ) (nothing : carried from y l ≡ 0) where
-  days-next : (d : Ended) (days : List Ended) → year (d .date) ≡ y → offenceDays y l (d ∷ days) ≡ pick (offenceOn l d) 1 0 + offenceDays y l days
+  days-next : (d : Ended) (days : List Ended) (t : Bool) → eqb (year (d .date)) y ≡ t
+      → offenceDays y l (d ∷ days) ≡ pick (t && offenceOn l d) 1 0 + offenceDays y l days
   unfolding offenceDays howMany
-  days-next d days e = rw (eq-eqb (year (d .date)) y e)
+  days-next d days t e = rw e
+
+  sanctions-next : (d : Ended) (days : List Ended) (t : Bool) → eqb (year (d .date)) y ≡ t
+      → restrictions from y l (d ∷ days) ≡ pick (t && noOpening (sanctionOn from l d days)) 1 0 + restrictions from y l days
+  unfolding sanctions
+  sanctions-next d days t e = rw e
 
   total-next : (d : Ended) (days : List Ended) → year (d .date) ≡ y
       → totalOver from (year (d .date)) l (d ∷ days) ≡ pick (offenceOn l d) 1 0 + offenceDays y l days
   unfolding totalOver
-  total-next d days e = rw (e, nothing, zero-add) (days-next d days e)
-
-  sanctions-next : (d : Ended) (days : List Ended)
-      → restrictions from l (d ∷ days) ≡ pick (noOpening (sanctionOn from l d days)) 1 0 + restrictions from l days
-  unfolding sanctions
-  sanctions-next d days = refl
+  total-next d days e = rw (e, nothing, zero-add) (days-next d days true (eq-eqb (year (d .date)) y e))
 
   sanction-next : (d : Ended) (days : List Ended) → year (d .date) ≡ y
       → sanctionOn from l d days
@@ -94,11 +94,17 @@ module _ (from : List ℕ) (y l : ℕ) (nothing : carried from y l ≡ 0) where
   unfolding sanctionOn
   sanction-next d days e = rw (total-next d days e)
 
-  pub third : (days : List Ended) → InYear y days → KnownDays days → restrictions from l days ≡ offenceDays y l days / 3
-  third [] i k = unfold sanctions offenceDays howMany in refl
-  third (d ∷ days) (year-more e i) (more known k) =
-      let one = step (offenceOn l d) (memberOn (d .tables) (groupAt l)) (d .tables .rulebook) (offenceDays y l days) known in
-      rw (sanctions-next d days, sanction-next d days e, days-next d days e, third days i k) one
+  -- one more day, of the year or not
+  next-day : (d : Ended) (days : List Ended) (t : Bool) → eqb (year (d .date)) y ≡ t → (d .tables .rulebook ≡ 1) ⊎ (d .tables .rulebook ≡ 2)
+      → restrictions from y l days ≡ offenceDays y l days / 3 → restrictions from y l (d ∷ days) ≡ offenceDays y l (d ∷ days) / 3
+  next-day d days true e known so =
+      rw (sanctions-next d days true e, days-next d days true e, sanction-next d days (eqb-true _ y e), so)
+      (step (offenceOn l d) (memberOn (d .tables) (groupAt l)) (d .tables .rulebook) (offenceDays y l days) known)
+  next-day d days false e known so = rw (sanctions-next d days false e, days-next d days false e, so) (unfold pick in omega arith)
+
+  pub third : (days : List Ended) → KnownDays days → restrictions from y l days ≡ offenceDays y l days / 3
+  third [] k = unfold sanctions offenceDays howMany in refl
+  third (d ∷ days) (more known k) = next-day d days (eqb (year (d .date)) y) refl known (third days k)
 
 pub fewer : (m n : ℕ) → m ≤ n → m / 3 ≤ n / 3
 fewer m n h = omega arith

@@ -8,7 +8,6 @@ use mathlib.Core.List.{List, [], _∷_, map}
 use Prim.Native.Nat.{ℕ, _+_, _≤_, _<_}
 use lib.Dec.{leb}
 use lib.ListN.{length}
-use Rattle.calendar.specs.Dates.{year}
 use Rattle.book.specs.Layout.{ladders, ladderOf, totalAt}
 use Rattle.daylog.specs.Tables.{tablesOf}
 use Rattle.desk.specs.declared.state.State.the-variants.{Closed}
@@ -64,18 +63,13 @@ pub data DaysJoined (a b : ℕ) (from : List ℕ) : List Ended → List Ended �
   more : {d d′ : Ended} {days days′ : List Ended} → DayJoined a b from d d′ days days′ → DaysJoined a b from days days′
       → DaysJoined a b from (d ∷ days) (d′ ∷ days′)
 
--- ---- of a year: totals at its end, and opening restrictions in it
-pub data InYear (y : ℕ) : List Ended → Type 0 where
-  none : InYear y []
-  more : {d : Ended} {days : List Ended} → year (d .date) ≡ y → InYear y days → InYear y (d ∷ days)
-
+-- ---- of the days and the books that they leave: totals at the end, and opening restrictions in each year
 -- group g had no more on a kind's ladder in a family than group b has after the join
 pub record NoFewer (g b : ℕ) (from book book′ : List ℕ) (days days′ : List Ended) (kind family : ℕ) : Type 0 where
   pub totals : totalAt book (ladderOf g kind family) ≤ totalAt book′ (ladderOf b kind family)
-  pub restricted : (y : ℕ) → InYear y days
-      → restrictions from (ladderOf g kind family) days ≤ restrictions from (ladderOf b kind family) days′
+  pub restricted : (y : ℕ)
+      → restrictions from y (ladderOf g kind family) days ≤ restrictions from y (ladderOf b kind family) days′
 
--- the days, and the books that they leave
 pub record YearJoined (a b : ℕ) (from book book′ : List ℕ) (days days′ : List Ended) : Type 0 where
   pub each : DaysJoined a b from days days′
   pub than-a : (kind family : ℕ) → 1 ≤ kind → kind ≤ 3 → family ≤ 15

@@ -13,7 +13,6 @@ use Rattle.demands.specs.Days.{Ended, blank}
 use Rattle.demands.specs.Samples.{futures, plainTrade}
 use Rattle.demands.specs.Join.{Joined}
 use Rattle.demands.specs.Restrictions.{sanctions, restrictions}
-use Rattle.demands.specs.Demand3.{InYear}
 
 -- ---- the days
 -- rulebook 1 and one futures contract, 101; account 11, a client, in a group, and account 12, a non-broker member, in
@@ -44,18 +43,17 @@ dayOf date group = record { date = date; tables = tablesWith group; records = re
 unfoldable pub daysWith : (group : ℕ) → List Ended
 daysWith group = dayOf 20240104 group ∷ dayOf 20240103 group ∷ dayOf 20240102 group ∷ []
 
--- ---- the two ways to count, on the ladder of a group for self-trades in futures
+-- ---- the two ways to count, in 2024, on the ladder of a group for self-trades in futures
 -- findings with sanction 3
 unfoldable pub threeAlone : (group : ℕ) → List Ended → ℕ
-threeAlone group days = sanctions (λ s. eqb s 3) (blank 1) (ladderOf group 1 0) days
+threeAlone group days = sanctions (λ s. eqb s 3) (blank 1) 2024 (ladderOf group 1 0) days
 
 -- findings with sanction 3 or 5
 unfoldable pub threeOrFive : (group : ℕ) → List Ended → ℕ
-threeOrFive group days = restrictions (blank 1) (ladderOf group 1 0) days
+threeOrFive group days = restrictions (blank 1) 2024 (ladderOf group 1 0) days
 
 pub record WhyThreeOrFive : Type 0 where
-  -- the days are of one year, and the tables after are those before with group 1 joined to group 2
-  pub in-year : InYear 2024 (daysWith 1)
+  -- the tables after are those before with group 1 joined to group 2
   pub joined : Joined 1 2 (tablesWith 1) (tablesWith 2)
   -- by 3 alone: group 1 had one before, and the joined group has none after
   pub three-before : threeAlone 1 (daysWith 1) ≡ 1

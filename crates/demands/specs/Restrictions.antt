@@ -2,7 +2,7 @@
 -- "5 (no opening, at least three months)".
 use mathlib.Core.Path.{_≡_}
 use Prim.Native.Nat.{ℕ, _+_, _<_}
-use mathlib.Core.Bool.{Bool, _||_}
+use mathlib.Core.Bool.{Bool, _&&_, _||_}
 use mathlib.Core.List.{List, [], _∷_}
 use lib.Dec.{eqb}
 use lib.ListN.{getD}
@@ -24,14 +24,14 @@ sanctionOn from ladder d before =
 abbrev pub noOpening : ℕ → Bool
 noOpening s = eqb s 3 || eqb s 5
 
--- how many findings on a ladder had a sanction that a test picks out
-unfoldable pub sanctions : (ℕ → Bool) → List ℕ → ℕ → List Ended → ℕ
-sanctions test from ladder [] = 0
-sanctions test from ladder (d ∷ before) =
-    pick (test (sanctionOn from ladder d before)) 1 0 + sanctions test from ladder before
+-- how many of a year's findings on a ladder had a sanction that a test picks out
+unfoldable pub sanctions : (ℕ → Bool) → List ℕ → (y ladder : ℕ) → List Ended → ℕ
+sanctions test from y ladder [] = 0
+sanctions test from y ladder (d ∷ before) =
+    pick (eqb (year (d .date)) y && test (sanctionOn from ladder d before)) 1 0 + sanctions test from y ladder before
 
--- "its number of opening restrictions (findings with sanction 3 or 5)"
-abbrev pub restrictions : List ℕ → ℕ → List Ended → ℕ
+-- "its number of opening restrictions (findings with sanction 3 or 5)" in a year
+abbrev pub restrictions : List ℕ → (y ladder : ℕ) → List Ended → ℕ
 restrictions = sanctions noOpening
 
 -- the sanctions of a run's days are those in its findings: byte 3 of each

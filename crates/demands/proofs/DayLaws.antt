@@ -39,6 +39,12 @@ use Rattle.demands.proofs.CountLaws.{cell-there, cell-in, cell-is, rais
 use Rattle.demands.proofs.ManyLaws.{many-le}
 use Rattle.demands.proofs.TableLaws.{known-tables, has-record, placed, none-past}
 
+-- a book by its rulebook and its totals
+pub book-cong : (r r′ date : ℕ) (f g : ℕ → ℕ) → r ≡ r′ → ((l : ℕ) → l < 6144 → f l ≡ g l) → bookOf r date f ≡ bookOf r′ date g
+unfolding bookOf
+book-cong r r′ date f g e same =
+    ap₂ (λ (a b : List ℕ). a ++ b) (ap (λ (n : ℕ). headOf n date) e) (rows-cong _ _ 6144 (λ l h. ap (bytes 2) (same l h)))
+
 pub record Agrees (log : List ℕ) (rs : List Record) (c : List ℕ) : Type 0 where
   pub sound : logFault log ≡ 0
   pub long : 12288 ≤ length c
@@ -177,8 +183,8 @@ module _ (log : List ℕ) (rs : List Record) (c : List ℕ) (a : Agrees log rs c
     total-is ladder h = ap (λ (b : Bool). raisedTotal (laterYear book date) b (totalAt book ladder)) (offends-are ladder h)
 
     pub book-is : bookAfter (tablesOf log) date book (inCells c) ≡ bookAfter (tablesOf log) date book (timesOn (tablesOf log) rs)
-    unfolding bookAfter bookOf
-    book-is = ap (λ (s : List ℕ). headOf (tablesOf log .rulebook) date ++ s) (rows-cong _ _ 6144 (λ l h. ap (bytes 2) (total-is l h)))
+    unfolding bookAfter
+    book-is = book-cong _ _ date _ _ refl total-is
 
     found-is : (ladder : ℕ) → ladder < 6144 → foundAt (tablesOf log) date book (inCells c) ladder ≡ foundAt (tablesOf log) date book (timesOn (tablesOf log) rs) ladder
     unfolding foundAt

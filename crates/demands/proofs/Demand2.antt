@@ -25,7 +25,7 @@ use Rattle.desk.specs.End.{rowFault}
 use Rattle.demands.specs.Counts.{timesOn}
 use Rattle.demands.specs.Days.{Ended, endedDay, totalOver, foundOn, blank}
 use Rattle.demands.specs.Calls.{Step, makeBook, openDay, takeRecord, endDay, abandonDay, askBook, lendFindings, numberIn, Desk, Given, Gives, Ran, none, next, left}
-use Rattle.demands.specs.Paper.{during, Paper, dayIn, endRefusal, endRuled, openRuled, takeRuled, rule, paperAfter}
+use Rattle.demands.specs.Paper.{during, Paper, dayIn, endRefusal, endRuled, rule, paperAfter}
 use Rattle.demands.specs.Logs.{front, rowsOf, recordsIn, logNumber, dayBook, ruledFile, Judged, JudgesAll, ruledLogs}
 use Rattle.demands.specs.Demand2.{begun, CallsRuled, CellsCounted, None, none as nothing, more, NeverChanged, SoundRun, NeverUnsound, FindingsListed, LowestId, History, recorded, history, since, BookOfDays, TotalsCounted, FreshIsBlank, BlankCarriesNothing, SanctionsFound, FindingsFound, LogsRuled, AlwaysRead, loggedDay, logDays, lastFile, FileOfDays, LogsFound}
 use Rattle.demands.proofs.CallLaws.{Stands, rest, busy, step, stands-book, begins, runs-read, runs-stand, handed-parts, paper}
@@ -33,6 +33,7 @@ use Rattle.demands.proofs.LentLaws.{cells-counted as counted}
 use Rattle.demands.proofs.ListedLaws.{findings-list}
 use Rattle.demands.proofs.IdLaws.{lowest-id as lowest}
 use Rattle.demands.proofs.NumberLaws.{refusal, number-is, never-19, never-17}
+use Rattle.demands.proofs.PaperLaws.{kept-fresh, recorded-end, open-book, take-book, abandon-book}
 use Rattle.demands.proofs.Answers.{reads}
 use Rattle.demands.proofs.LogLaws.{call-number, end-number, end-holds, judges, judges-ruled}
 use Rattle.demands.proofs.TotalLaws.{Ready, Kept, kept-none, kept-day, blank-sound, blank-carries, ready, ended-sound}
@@ -60,28 +61,6 @@ never-changed w cs gs e r = all (begins w e) r
         let t = step s g in
         more (λ q. never-19 p (p .course) c (sym (number-is p (p .course) c) ∙ ap numberIn (sym (t .reply)) ∙ q)) (all (t .after) r)
 
--- what a choice between two papers leaves in the book
-book-of : (t : Bool) (p q : Paper) → p .book ≡ q .book → pick t p q .book ≡ q .book
-unfolding pick
-book-of true p q e = e
-book-of false p q e = refl
-
--- the book that a step leaves: as it was, but for a fresh one and at a day's end
-same-book : {w : Desk} {p : Paper} → Stands w p → (log : List ℕ) → rule p (p .course) (openDay log) .after .book ≡ p .book
-unfolding rule openRuled
-same-book (rest n) log = book-of _ _ _ refl
-same-book (busy n a) log = refl
-
-taken-book : {w : Desk} {p : Paper} → Stands w p → (row : List ℕ) → rule p (p .course) (takeRecord row) .after .book ≡ p .book
-unfolding rule takeRuled
-taken-book (rest n) row = refl
-taken-book (busy n a) row = book-of _ _ _ refl
-
-left-book : {w : Desk} {p : Paper} → Stands w p → rule p (p .course) abandonDay .after .book ≡ p .book
-unfolding rule
-left-book (rest n) = refl
-left-book (busy n a) = refl
-
 -- a day ended on a book that allows it
 pub end-ready : (log : List ℕ) (rs : List Record) (row book : List ℕ) (room : ℕ) → logFault log ≡ 0 → endRefusal log rs row book room ≡ 0 → Ready log book
 unfolding endRefusal
@@ -90,10 +69,6 @@ end-ready log rs row book room e f =
     ready log book e (or-none (bookFault (headerOf log) book) _ (q .1) .0)
 
 -- ---- the book stays sound
-pub kept-fresh : (book : List ℕ) (rulebook : ℕ) → eqb (freshFault (length book) rulebook) 0 ≡ false → freshBook book rulebook ≡ book
-unfolding freshBook
-kept-fresh book rulebook e = sym (pick-no _ _ _ _ e refl)
-
 sound-fresh : (book : List ℕ) (rulebook : ℕ) → sound book ≡ true → sound (freshBook book rulebook) ≡ true
 sound-fresh book rulebook good = go (eqb (freshFault (length book) rulebook) 0) refl
   where
@@ -106,9 +81,9 @@ unfolding rule endRuled
 sound-step s good (makeBook rulebook) = sound-fresh _ rulebook good
 sound-step s good (askBook group kind family) = good
 sound-step s good (lendFindings out) = good
-sound-step s good (openDay log) = ap sound (same-book s log) ∙ good
-sound-step s good (takeRecord row) = ap sound (taken-book s row) ∙ good
-sound-step s good abandonDay = ap sound (left-book s) ∙ good
+sound-step {p = p} s good (openDay log) = ap sound (open-book p (p .course) log) ∙ good
+sound-step {p = p} s good (takeRecord row) = ap sound (take-book p (p .course) row) ∙ good
+sound-step {p = p} s good abandonDay = ap sound (abandon-book p (p .course)) ∙ good
 sound-step (rest n) good (endDay row) = good
 sound-step (busy {log} {c} {book} {out} {rs} {room} n a) good (endDay row) = go (eqb (endRefusal log rs row book (length out)) 0) refl
   where
@@ -173,9 +148,9 @@ unfolding rule endRuled recorded
 holds-step h s k (makeBook rulebook) = holds-fresh h _ rulebook k
 holds-step h s k (askBook group kind family) = k
 holds-step h s k (lendFindings out) = k
-holds-step h s k (openDay log) = subst (Kept (h .from) (h .days)) (sym (same-book s log)) k
-holds-step h s k (takeRecord row) = subst (Kept (h .from) (h .days)) (sym (taken-book s row)) k
-holds-step h s k abandonDay = subst (Kept (h .from) (h .days)) (sym (left-book s)) k
+holds-step {p = p} h s k (openDay log) = subst (Kept (h .from) (h .days)) (sym (open-book p (p .course) log)) k
+holds-step {p = p} h s k (takeRecord row) = subst (Kept (h .from) (h .days)) (sym (take-book p (p .course) row)) k
+holds-step {p = p} h s k abandonDay = subst (Kept (h .from) (h .days)) (sym (abandon-book p (p .course))) k
 holds-step h (rest n) k (endDay row) = k
 holds-step h (busy {log} {c} {book} {out} {rs} {room} n a) k (endDay row) =
     choose (eqb (endRefusal log rs row book (length out)) 0) _ h _ (paper (during log rs) book out room)
@@ -218,11 +193,6 @@ history-more : (p : Paper) (h : History) (cs : List Step) (c : Step)
 unfolding history paperAfter
 history-more p h [] c = refl
 history-more p h (d ∷ cs) c = history-more (rule p (p .course) d .after) (recorded p (p .course) d h) cs c
-
-pub recorded-end : (p : Paper) (log : List ℕ) (rs : List Record) (row : List ℕ) (h : History) → endRefusal log rs row (p .book) (length (p .out)) ≡ 0
-    → recorded p (during log rs) (endDay row) h ≡ record { from = h .from; days = endedDay log rs ∷ h .days }
-unfolding recorded
-recorded-end p log rs row h e = sym (pick-yes _ _ _ _ (eq-eqb _ 0 e) refl)
 
 -- what the rules put in the buffer are the rows of what the day found
 rows-found : {from : List ℕ} {days : List Ended} (log book : List ℕ) (rs : List Record) → Kept from days book

@@ -5,13 +5,11 @@ use mathlib.Core.Bool.{Bool, true, false, not}
 use mathlib.Core.List.{List, [], _∷_}
 use Prim.Native.Nat.{ℕ, _*_, _≤_}
 use native.Mathlib.Omega.{arith}
-use borrow.Author.Tests.{leb-true, eqb-true, eqb-false, eq-eqb, ne-eqb, le-ltb}
+use borrow.Author.Tests.{eqb-true, eqb-false, eq-eqb, le-ltb}
 use lib.Dec.{leb, ltb, eqb, lit<}
 use lib.ListN.{length}
 use Rattle.wire.specs.Choice.{pick, orElse}
-use Rattle.wire.specs.Buffers.{put}
 use Rattle.wire.proofs.ChoiceLaws.{pick-yes, pick-no, pick-zero, or-none, and-left, and-right}
-use Rattle.wire.proofs.BufferLaws.{length-put}
 use Rattle.book.specs.Fresh.{freshFault, freshBook}
 use Rattle.book.specs.Ask.{inRange, askFault}
 use Rattle.book.specs.Sound.{sound}
@@ -19,116 +17,32 @@ use Rattle.daylog.specs.declared.header.Header.{Header}
 use Rattle.daylog.specs.declared.record.Record.{Record}
 use Rattle.daylog.specs.Header.{headerOf, logFault}
 use Rattle.daylog.specs.Records.{recordOf}
-use Rattle.daylog.specs.Tables.{Tables, tablesOf}
+use Rattle.daylog.specs.Tables.{tablesOf}
 use Rattle.desk.specs.Open.{bookFault, roomFault, handedFault}
-use Rattle.desk.specs.Findings.{findings, bookAfter, foundCount}
+use Rattle.desk.specs.Findings.{foundCount}
 use Rattle.desk.specs.End.{rowFault}
 use Rattle.desk.proofs.OpenLaws.{room-there}
 use Rattle.demands.specs.Counts.{timesOn}
 use Rattle.demands.specs.Days.{blank}
-use Rattle.demands.specs.Calls.{Step, makeBook, openDay, takeRecord, endDay, abandonDay, askBook, lendFindings}
-use Rattle.demands.specs.Paper.{Course, idle, during, Paper, dayIn, takeNumber, endRefusal, at, resting, openRuled, takeRuled, endRuled, rule, rules, numbersOn, paperAfter}
+use Rattle.demands.specs.Calls.{Step, makeBook, openDay, endDay}
+use Rattle.demands.specs.Paper.{Course, idle, during, Paper, dayIn, takeNumber, endRefusal, rule, rules, numbersOn, paperAfter}
 use Rattle.demands.specs.Lent.{latest, lastOpened}
 use Rattle.demands.specs.Demand2.{History, recorded, history}
 use Rattle.demands.specs.Join.{joinLog}
 use Rattle.demands.specs.Demand3.{Two, StepJoined, makes, opens, takes, ends, abandons, asks, lends, StepsJoined, none, more, roomy, allRoomy}
 use Rattle.demands.proofs.CallLaws.{paper, handed-parts}
-use Rattle.demands.proofs.ListedLaws.{findings-list}
+use Rattle.demands.proofs.ListedLaws.{found-fits}
 use Rattle.demands.proofs.NumberLaws.{refusal, number-is}
-use Rattle.demands.proofs.LogLaws.{found-fits}
-use Rattle.demands.proofs.Demand2.{Holds, holds-fresh, recorded-end, kept-fresh}
+use Rattle.demands.proofs.PaperLaws.{refused-leaves, after-open, after-take, after-end, recorded-end, same-room, full-out}
+use Rattle.demands.proofs.Demand2.{Holds, holds-fresh}
 use Rattle.demands.proofs.JoinTables.{joined-log}
 use Rattle.demands.proofs.JoinCounts.{fault-joined}
 use Rattle.demands.proofs.JoinYears.{Years, years-fresh, lengths-same, sound-same, book-same, years-day}
 
--- ---- what a step leaves on the paper
--- a refused one leaves everything
-module _ (p : Paper) (h : History) where
-  pub record Left (course : Course) (c : Step) : Type 0 where
-    pub paper : rule p course c .after ≡ p
-    pub days : recorded p course c h ≡ h
-
-  pub refused-leaves : (course : Course) (c : Step) → (refusal p course c ≡ 0 → ⊥) → Left course c
-  unfolding refusal rule recorded openRuled takeRuled endRuled
-  refused-leaves course (makeBook rulebook) f =
-      let e = ne-eqb (freshFault (length (p .book)) rulebook) 0 f in
-      record { paper = rw (kept-fresh (p .book) rulebook e); days = sym (pick-no _ _ _ _ e refl) }
-  refused-leaves course (askBook group kind family) f = record { paper = refl; days = refl }
-  refused-leaves course (lendFindings out) f = absurd (f refl)
-  refused-leaves idle (openDay log) f = record { paper = sym (pick-no _ _ _ _ (ne-eqb _ 0 f) refl); days = refl }
-  refused-leaves idle (takeRecord row) f = record { paper = refl; days = refl }
-  refused-leaves idle (endDay row) f = record { paper = refl; days = refl }
-  refused-leaves idle abandonDay f = record { paper = refl; days = refl }
-  refused-leaves (during log rs) (openDay other) f = record { paper = refl; days = refl }
-  refused-leaves (during log rs) (takeRecord row) f = record { paper = sym (pick-no _ _ _ _ (ne-eqb _ 0 f) refl); days = refl }
-  refused-leaves (during log rs) (endDay row) f =
-      record { paper = sym (pick-no _ _ _ _ (ne-eqb _ 0 f) refl); days = sym (pick-no _ _ _ _ (ne-eqb _ 0 f) refl) }
-  refused-leaves (during log rs) abandonDay f = absurd (f refl)
-
--- an accepted one
-after-open : (p : Paper) (log : List ℕ) → handedFault log (p .book) (p .room) ≡ 0 → at p (during log []) ≡ rule p idle (openDay log) .after
-unfolding rule openRuled
-after-open p log e = pick-yes _ _ _ _ (eq-eqb _ 0 e) refl
-
-after-take : (p : Paper) (log : List ℕ) (rs : List Record) (row : List ℕ) → takeNumber log rs row ≡ 0
-    → at p (during log (recordOf row ∷ rs)) ≡ rule p (during log rs) (takeRecord row) .after
-unfolding rule takeRuled
-after-take p log rs row e = pick-yes _ _ _ _ (eq-eqb _ 0 e) refl
-
-after-end : (p : Paper) (log : List ℕ) (rs : List Record) (row : List ℕ) → endRefusal log rs row (p .book) (length (p .out)) ≡ 0
-    → resting p (bookAfter (tablesOf log) (headerOf log .date) (p .book) (timesOn (tablesOf log) rs)) (put (p .out) 0 (findings (tablesOf log) (headerOf log .date) (p .book) (timesOn (tablesOf log) rs)))
-    ≡ rule p (during log rs) (endDay row) .after
-unfolding rule endRuled
-after-end p log rs row e = pick-yes _ _ _ _ (eq-eqb _ 0 e) refl
-
+-- a fresh book begins a new history
 made-history : (rulebook len : ℕ) (h : History) → freshFault len rulebook ≡ 0
     → _≡_ {A = History} (record { from = blank rulebook; days = [] }) (pick (eqb (freshFault len rulebook) 0) (record { from = blank rulebook; days = [] }) h)
 made-history rulebook len h e = pick-yes _ _ _ _ (eq-eqb _ 0 e) refl
-
--- ---- room: a step leaves the counts' length, and full room for findings where what it lends has it
-room-of : (t : Bool) (q p : Paper) → q .room ≡ p .room → pick t q p .room ≡ p .room
-unfolding pick
-room-of true q p e = e
-room-of false q p e = refl
-
-same-room : (p : Paper) (course : Course) (c : Step) → rule p course c .after .room ≡ p .room
-unfolding rule openRuled takeRuled endRuled
-same-room p course (makeBook rulebook) = refl
-same-room p course (askBook group kind family) = refl
-same-room p course (lendFindings out) = refl
-same-room p idle (openDay log) = room-of _ _ p refl
-same-room p idle (takeRecord row) = refl
-same-room p idle (endDay row) = refl
-same-room p idle abandonDay = refl
-same-room p (during log rs) (openDay other) = refl
-same-room p (during log rs) (takeRecord row) = room-of _ _ p refl
-same-room p (during log rs) (endDay row) = room-of _ _ p refl
-same-room p (during log rs) abandonDay = refl
-
-out-of : (t : Bool) (q p : Paper) → 49152 ≤ length (q .out) → 49152 ≤ length (p .out) → 49152 ≤ length (pick t q p .out)
-unfolding pick
-out-of true q p h l = h
-out-of false q p h l = l
-
-pub written-room : (t : Tables) (rs : List Record) (date : ℕ) (book out : List ℕ) → 49152 ≤ length out
-    → 49152 ≤ length (put out 0 (findings t date book (timesOn t rs)))
-written-room t rs date book out h =
-    let long = findings-list t rs date book .long in
-    omega (arith, length-put out 0 (findings t date book (timesOn t rs)) (omega (arith, found-fits t (timesOn t rs) (length out) h)))
-
-full-out : (p : Paper) (course : Course) (c : Step) → 49152 ≤ length (p .out) → roomy c ≡ true → 49152 ≤ length (rule p course c .after .out)
-unfolding rule openRuled takeRuled endRuled roomy
-full-out p course (makeBook rulebook) h l = h
-full-out p course (askBook group kind family) h l = h
-full-out p course (lendFindings out) h l = leb-true 49152 (length out) l
-full-out p idle (openDay log) h l = out-of _ _ p h h
-full-out p idle (takeRecord row) h l = h
-full-out p idle (endDay row) h l = h
-full-out p idle abandonDay h l = h
-full-out p (during log rs) (openDay other) h l = h
-full-out p (during log rs) (takeRecord row) h l = out-of _ _ p h h
-full-out p (during log rs) (endDay row) h l = out-of _ _ p (written-room (tablesOf log) rs (headerOf log .date) (p .book) (p .out) h) h
-full-out p (during log rs) abandonDay h l = h
 
 -- every step of a list is accepted
 unfoldable pub AcceptedBy : Paper → List Step → Type 0

@@ -8,6 +8,7 @@ pub mod ListedLaws
 pub mod IdLaws
 pub mod TotalLaws
 pub mod NumberLaws
+pub mod PaperLaws
 pub mod Answers
 pub mod Demand1
 pub mod LogLaws
@@ -24,5 +25,6 @@ pub mod Example
 pub mod Demand3
 pub mod SampleLaws
 pub mod Starred
+pub mod RuledSteps
 pub mod Worked
 pub mod WorkedYear

@@ -3,7 +3,7 @@
 use mathlib.Core.Path.{_≡_, refl, sym, ap, _∙_}
 use mathlib.Core.Bool.{Bool, true}
 use mathlib.Core.List.{List, []}
-use Prim.Native.Nat.{ℕ, _+_, _*_, _<_}
+use Prim.Native.Nat.{ℕ, _+_, _*_, _≤_, _<_}
 use native.Mathlib.Omega.{arith}
 use borrow.Author.Tests.{ltb-true}
 use lib.Dec.{ltb}
@@ -13,7 +13,7 @@ use Rattle.wire.specs.Places.{count, first}
 use Rattle.wire.specs.Bytes.{bytes}
 use Rattle.wire.specs.Buffers.{rows}
 use Rattle.wire.proofs.KeptLaws.{part-at, kept-length, kept-at}
-use Rattle.wire.proofs.PlaceLaws.{first-below, first-some, Passes, Passed, count-below, count-rises, passed, first-passes}
+use Rattle.wire.proofs.PlaceLaws.{count-le, first-below, first-some, Passes, Passed, count-below, count-rises, passed, first-passes}
 use Rattle.book.specs.Layout.{ladders, ladderOf}
 use Rattle.daylog.specs.declared.record.Record.{Record}
 use Rattle.daylog.specs.Tables.{Tables}
@@ -128,3 +128,8 @@ module _ (t : Tables) (rs : List Record) (date : ℕ) (book : List ℕ) where
     says = says;
     lowest = λ j h. lowest-where t rs (ladderIn listing j) (nth-offence j h .passes);
   }
+
+-- "At most 6,144, which is 49,152 bytes": a buffer of that length is never too short
+pub found-fits : (t : Tables) (counted : ℕ → ℕ → ℕ) (room : ℕ) → 49152 ≤ room → 8 * foundCount t counted ≤ room
+unfolding foundCount
+found-fits t counted room h = omega (arith, count-le (offendsOn t counted) 6144)

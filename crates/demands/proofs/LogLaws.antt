@@ -2,31 +2,31 @@
 use mathlib.Core.Path.{_≡_, refl, sym, ap, ap₂, _∙_, subst}
 use mathlib.Core.Bool.{Bool, true, false}
 use mathlib.Core.List.{List, [], _∷_}
-use Prim.Native.Nat.{ℕ, _*_, _≤_}
+use Prim.Native.Nat.{ℕ, _≤_}
 use native.Mathlib.Omega.{arith}
-use borrow.Author.Tests.{eqb-true, eqb-false, eq-eqb, le-ltb}
+use borrow.Author.Tests.{eqb-true, eqb-false, le-ltb}
 use lib.Dec.{eqb}
 use lib.ListN.{length, replicate, length-replicate}
 use Rattle.wire.specs.Choice.{pick, orElse}
 use Rattle.wire.specs.Buffers.{put}
 use Rattle.wire.proofs.ChoiceLaws.{pick-yes, pick-no, or-else, or-first, flip-yes, flip-no}
-use Rattle.wire.proofs.PlaceLaws.{count-le}
 use Rattle.daylog.specs.declared.record.Record.{Record}
 use Rattle.daylog.specs.Header.{headerOf}
 use Rattle.daylog.specs.Records.{recordOf}
-use Rattle.daylog.specs.Tables.{Tables, tablesOf}
+use Rattle.daylog.specs.Tables.{tablesOf}
 use Rattle.desk.specs.Cells.{cells}
 use Rattle.desk.specs.Open.{bookFault, handedFault}
-use Rattle.desk.specs.Offences.{offendsOn}
-use Rattle.desk.specs.Findings.{findings, bookAfter, foundCount}
+use Rattle.desk.specs.Findings.{findings, bookAfter}
 use Rattle.desk.specs.End.{rowFault}
 use Rattle.demands.specs.Counts.{timesOn}
 use Rattle.demands.specs.Calls.{Step, openDay, takeRecord, endDay, numberIn, Desk, Given, Gives}
-use Rattle.demands.specs.Paper.{idle, during, Paper, dayIn, takeNumber, endRefusal, openRuled, takeRuled, endRuled, rule}
+use Rattle.demands.specs.Paper.{idle, during, Paper, dayIn, takeNumber, endRefusal}
 use Rattle.demands.specs.Logs.{front, rowsOf, isEnd, Reads, stops, cut, takes, take-refused, end-refused, ends, follows, clerkDesk, Judges, open-refused, opened, fileAfter, recordsIn, followFault, rowsNumber, logNumber, dayFindings, ruledFile, Judged, printedOf, JudgesAll, none as no-log, next as one-log, ruledLogs}
 use Rattle.demands.specs.Demand2.{LogsRuled}
 use Rattle.demands.proofs.CallLaws.{Stands, rest, step, paper, stands-book, stands-out, handed-parts}
 use Rattle.demands.proofs.NumberLaws.{refusal, number-is}
+use Rattle.demands.proofs.ListedLaws.{found-fits}
+use Rattle.demands.proofs.PaperLaws.{after-open, after-take, after-end}
 
 -- ---- the end's refusal
 or-zero : (a : ℕ) → orElse a 0 ≡ a
@@ -35,11 +35,6 @@ or-zero a = go (eqb a 0) refl
     go : (t : Bool) → eqb a 0 ≡ t → orElse a 0 ≡ a
     go true e = or-else a 0 (eqb-true a 0 e) ∙ sym (eqb-true a 0 e)
     go false e = or-first a 0 (eqb-false a 0 e)
-
--- "At most 6,144, which is 49,152 bytes": a buffer of that length is never too short
-pub found-fits : (t : Tables) (counted : ℕ → ℕ → ℕ) (room : ℕ) → 49152 ≤ room → 8 * foundCount t counted ≤ room
-unfolding foundCount
-found-fits t counted room h = omega (arith, count-le (offendsOn t counted) 6144)
 
 -- on a book that the opening accepted, and with that room, only the record itself can be refused
 pub end-plain : (log : List ℕ) (rs : List Record) (row book : List ℕ) (room : ℕ) → eqb (length row) 20 ≡ true
@@ -97,8 +92,7 @@ module _ {w : Desk} {log : List ℕ} {book out : List ℕ} {room : ℕ} {g : Giv
   open-number = call-number s m
 
   open-stands : handedFault log book room ≡ 0 → Stands (g .after) (paper (during log []) book out room)
-  unfolding rule openRuled
-  open-stands z = subst (Stands (g .after)) (sym (pick-yes _ _ _ _ (eq-eqb _ 0 z) refl)) (step s m .after)
+  open-stands z = subst (Stands (g .after)) (sym (after-open (paper idle book out room) log z)) (step s m .after)
 
 module _ {w : Desk} {log : List ℕ} {rs : List Record} {book out : List ℕ} {room : ℕ} (row : List ℕ) {g : Given} (s : Stands w (paper (during log rs) book out room)) where
   take-number : Gives w (takeRecord row) g → numberIn (g .reply) ≡ takeNumber log rs row
@@ -106,8 +100,7 @@ module _ {w : Desk} {log : List ℕ} {rs : List Record} {book out : List ℕ} {r
   take-number m = call-number s m
 
   take-stands : Gives w (takeRecord row) g → takeNumber log rs row ≡ 0 → Stands (g .after) (paper (during log (recordOf row ∷ rs)) book out room)
-  unfolding rule takeRuled
-  take-stands m z = subst (Stands (g .after)) (sym (pick-yes _ _ _ _ (eq-eqb _ 0 z) refl)) (step s m .after)
+  take-stands m z = subst (Stands (g .after)) (sym (after-take (paper (during log rs) book out room) log rs row z)) (step s m .after)
 
   pub end-number : Gives w (endDay row) g → numberIn (g .reply) ≡ endRefusal log rs row book (length out)
   unfolding refusal
@@ -115,8 +108,7 @@ module _ {w : Desk} {log : List ℕ} {rs : List Record} {book out : List ℕ} {r
 
   pub end-holds : Gives w (endDay row) g → endRefusal log rs row book (length out) ≡ 0
       → Holds (bookAfter (tablesOf log) (headerOf log .date) book (timesOn (tablesOf log) rs)) (put out 0 (findings (tablesOf log) (headerOf log .date) book (timesOn (tablesOf log) rs))) (g .after)
-  unfolding rule endRuled
-  end-holds m z = stands-holds (subst (Stands (g .after)) (sym (pick-yes _ _ _ _ (eq-eqb _ 0 z) refl)) (step s m .after))
+  end-holds m z = stands-holds (subst (Stands (g .after)) (sym (after-end (paper (during log rs) book out room) log rs row z)) (step s m .after))
 
 -- ---- a log
 -- the number is the rules', and where it is 0 the book and the findings are those of the day with these records

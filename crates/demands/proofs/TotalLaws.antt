@@ -1,20 +1,18 @@
 -- The book is that of the days ended on it: a day more makes the book of one day more. Assumes nothing.
 use mathlib.Core.Path.{_≡_, refl, sym, ap, ap₂, _∙_, subst}
 use mathlib.Core.Bool.{Bool, true, false, _&&_}
-use mathlib.Core.List.{List, [], _∷_, _++_}
+use mathlib.Core.List.{List, [], _∷_}
 use Prim.Native.Nat.{ℕ, _+_, _<_, _≤_}
 use native.Mathlib.Omega.{arith}
 use borrow.Author.Tests.{ltb-true, ltb-false, leb-false, eqb-true, eq-eqb, ne-eqb, lt-ltb, le-ltb, not-false}
 use lib.Dec.{eqb, ltb, lit<}
 use lib.ListN.{getD}
 use Rattle.wire.specs.Choice.{pick, within}
-use Rattle.wire.specs.Bytes.{bytes}
 use Rattle.wire.proofs.ChoiceLaws.{pick-yes, pick-no, pick-same, pick-zero, and-no}
-use Rattle.wire.proofs.BufferLaws.{rows-cong}
 use Rattle.calendar.specs.Dates.{year, realDay}
 use Rattle.calendar.proofs.DateLaws.{real, year-rises}
 use Rattle.rules.specs.Ladders.{rung, sanction}
-use Rattle.book.specs.Layout.{headOf, bookOf, rulebookOf, lastDate, totalAt}
+use Rattle.book.specs.Layout.{rulebookOf, lastDate, totalAt}
 use Rattle.book.specs.Sound.{sound}
 use Rattle.book.proofs.BookLaws.{Sound, sound-facts, fresh-sound, rulebook-of-book, date-of-book, total-of-book}
 use Rattle.daylog.specs.declared.record.Record.{Record}
@@ -28,6 +26,7 @@ use Rattle.desk.proofs.BookKept.{after-is, kept-sound, kept-total, tables-ruleb
 use Rattle.demands.specs.Counts.{howMany, timesOn, offence}
 use Rattle.demands.specs.Days.{Ended, endedDay, offenceOn, offenceDays, lastOn, carried, totalOver, bookOver, blank}
 use Rattle.demands.specs.Restrictions.{sanctionOn, Sanctioned, none, more}
+use Rattle.demands.proofs.DayLaws.{book-cong}
 use Rattle.demands.proofs.ListedLaws.{offends-is}
 
 -- ---- a book on which a day may be ended
@@ -188,9 +187,9 @@ module _ (from : List ℕ) (days : List Ended) (log book : List ℕ) (rs : List 
       ∙ ap₂ (λ (o : Bool) (n : ℕ). pick o (sanction (t .rulebook) (rung n) (memberOn t (groupAt l))) 0) (offends-is t rs l) (total-is l h)
 
   pub kept-day : Kept from (endedDay log rs ∷ days) (bookAfter t date book (timesOn t rs))
-  unfolding bookAfter bookOver bookOf lastOn Rising OfRulebook
+  unfolding bookAfter bookOver lastOn Rising OfRulebook
   kept-day = record {
-    is = ap₂ (λ (r : ℕ) (s : List ℕ). headOf r date ++ s) rulebook-is (rows-cong _ _ 6144 (λ l h. ap (bytes 2) (total-is l h)));
+    is = book-cong _ _ date _ _ rulebook-is total-is;
     rulebook = rulebook-of-book (t .rulebook) date (totalAfter t date book (timesOn t rs)) ∙ rulebook-is;
     last = date-of-book (t .rulebook) date (totalAfter t date book (timesOn t rs)) (omega (arith, real date (q .date) .last-year));
     total = λ l h. kept-total t date book (timesOn t rs) (q .facts) (q .same) (q .date) (q .later) l h ∙ summed l h;

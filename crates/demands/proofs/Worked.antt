@@ -1,10 +1,10 @@
 -- Document 01's example comes out as it says, and so do the refusals of specs/Worked. Assumes nothing.
-use mathlib.Core.Path.{_≡_, refl, sym, ap, ap₂, _∙_}
+use mathlib.Core.Path.{_≡_, refl, sym, ap, _∙_}
 use mathlib.Core.Bool.{Bool, true, false, not}
-use mathlib.Core.List.{List, [], _∷_, _++_, map}
+use mathlib.Core.List.{List, [], _∷_}
 use Prim.Native.Nat.{ℕ, _*_, _<_}
 use native.Mathlib.Omega.{arith}
-use borrow.Author.Tests.{eqb-true, eq-eqb, lt-leb}
+use borrow.Author.Tests.{eqb-true, eq-eqb}
 use lib.Dec.{eqb, ltb}
 use lib.ListN.{length, replicate, length-replicate}
 use Rattle.wire.specs.Choice.{pick, orElse}
@@ -19,12 +19,10 @@ use Rattle.rules.specs.Choices.{byThree}
 use Rattle.rules.specs.Exemption.{known, exempt}
 use Rattle.rules.specs.Measure.{enough}
 use Rattle.rules.specs.Ladders.{family, rung, sanction}
-use Rattle.book.specs.Layout.{headOf, bookOf, rulebookOf, lastDate}
 use Rattle.book.specs.Fresh.{freshFault, freshAnswer, freshBook}
 use Rattle.book.specs.Ask.{askFault, askAnswer}
 use Rattle.book.specs.Sound.{sound}
 use Rattle.book.specs.Raise.{raised}
-use Rattle.daylog.specs.declared.header.Header.{Header}
 use Rattle.daylog.specs.declared.record.Record.{Record}
 use Rattle.daylog.specs.Contracts.{contractAt, idBefore, contractsGood}
 use Rattle.daylog.specs.Accounts.{accountAt, numberBefore, accountsGood}
@@ -40,87 +38,16 @@ use Rattle.desk.specs.Findings.{memberOn, finding, totalAfter, foundAt, finding
 use Rattle.desk.specs.End.{endGood, rowFault}
 use Rattle.demands.specs.Counts.{howMany, timesOf, timesOn}
 use Rattle.demands.specs.Samples.{bookWithOne}
-use Rattle.demands.specs.Calls.{Step, openDay, takeRecord, endDay, abandonDay, lendFindings, Reply, ended, numberIn}
+use Rattle.demands.specs.Calls.{takeRecord, endDay, abandonDay, lendFindings, ended, numberIn}
 use Rattle.demands.specs.Paper.{idle, during, Paper, dayIn, takeNumber, endRefusal, openRuled, takeRuled, endRuled, rule, rules, numbersOn, paperAfter}
 use Rattle.demands.specs.Worked.{tablesFor, workedTables, tradeOn, tradeRow, endRow, workedBook, workedDesk, workedTrades, wholeDay, workedSteps, workedFinding, foundIn, Worked, noBook, wrongMark, noBookSteps, justOpened, openSteps, shortOut, shortOutSteps, Refusals}
 use Rattle.demands.proofs.CallLaws.{paper, stands-book, stands-out, runs-read, runs-stand}
-use Rattle.demands.proofs.NumberLaws.{refusal, number-is}
+use Rattle.demands.proofs.NumberLaws.{refusal}
 use Rattle.demands.proofs.Answers.{answers}
 use Rattle.demands.proofs.LogLaws.{clerk-rests}
+use Rattle.demands.proofs.DayLaws.{book-cong}
+use Rattle.demands.proofs.RuledSteps.{Goes, goes-one, goes-on, book-fits, opens, closes}
 use Rattle.demands.proofs.SampleLaws.{one, one-rulebook, one-date, one-total, one-sound}
-
--- ---- one list of steps after another
--- what is read in each answer
-abbrev pub readOn : (Reply → ℕ) → Paper → List Step → List ℕ
-readOn read p cs = map (λ r. read (r .reply)) (rules p cs)
-
-read-two : (read : Reply → ℕ) (p : Paper) (cs ds : List Step) → readOn read p (cs ++ ds) ≡ readOn read p cs ++ readOn read (paperAfter p cs) ds
-unfolding rules paperAfter
-read-two read p [] ds = refl
-read-two read p (c ∷ cs) ds = ap (λ (l : List ℕ). read (rule p (p .course) c .reply) ∷ l) (read-two read (rule p (p .course) c .after) cs ds)
-
-after-two : (p : Paper) (cs ds : List Step) → paperAfter p (cs ++ ds) ≡ paperAfter (paperAfter p cs) ds
-unfolding paperAfter
-after-two p [] ds = refl
-after-two p (c ∷ cs) ds = after-two (rule p (p .course) c .after) cs ds
-
--- ---- a list of steps by the rules: its numbers, how many findings each step tells of, and the paper that it leaves
-pub record Goes (p : Paper) (cs : List Step) (ns ks : List ℕ) (q : Paper) : Type 0 where
-  pub numbers : numbersOn p cs ≡ ns
-  pub counts : readOn foundIn p cs ≡ ks
-  pub after : paperAfter p cs ≡ q
-
--- one step
-goes-one : (p : Paper) (c : Step) (n k : ℕ) (q : Paper) → refusal p (p .course) c ≡ n → foundIn (rule p (p .course) c .reply) ≡ k
-    → rule p (p .course) c .after ≡ q → Goes p (c ∷ []) (n ∷ []) (k ∷ []) q
-unfolding numbersOn rules paperAfter
-goes-one p c n k q e f g =
-    record { numbers = ap (λ (i : ℕ). i ∷ []) (number-is p (p .course) c ∙ e); counts = ap (λ (i : ℕ). i ∷ []) f; after = g }
-
--- one list after another
-pub goes-on : {p q r : Paper} {cs ds : List Step} {ns ms ks js : List ℕ} → Goes p cs ns ks q → Goes q ds ms js r
-    → Goes p (cs ++ ds) (ns ++ ms) (ks ++ js) r
-unfolding numbersOn
-goes-on {p} {q} {r} {cs} {ds} g h = record {
-  numbers = read-two numberIn p cs ds ∙ ap₂ (λ (a b : List ℕ). a ++ b) (g .numbers) (ap (λ (x : Paper). readOn numberIn x ds) (g .after) ∙ h .numbers);
-  counts = read-two foundIn p cs ds ∙ ap₂ (λ (a b : List ℕ). a ++ b) (g .counts) (ap (λ (x : Paper). readOn foundIn x ds) (g .after) ∙ h .counts);
-  after = after-two p cs ds ∙ ap (λ (x : Paper). paperAfter x ds) (g .after) ∙ h .after;
-}
-
--- ---- a day opened and ended, on any tables that have no fault and any book that fits
-pub book-fits : (h : Header) (book : List ℕ) → sound book ≡ true → rulebookOf book ≡ h .rulebook → lastDate book < h .date → bookFault h book ≡ 0
-unfolding bookFault
-book-fits h book good same later =
-    sym
-    (pick-no _ _ 17 _ (flip-no _ good)
-    (pick-no _ _ 18 _ (flip-no _ (eq-eqb _ _ same))
-    (pick-no _ _ 9 _ (lt-leb _ _ later) refl)))
-
-room-good : roomFault 12288 ≡ 0
-unfolding roomFault pick
-room-good = refl
-
-pub opens : (log book out : List ℕ) → logFault log ≡ 0 → bookFault (headerOf log) book ≡ 0
-    → Goes (paper idle book out 12288) (openDay log ∷ []) (0 ∷ []) (0 ∷ []) (paper (during log []) book out 12288)
-unfolding refusal rule openRuled handedFault
-opens log book out e f =
-    let z : handedFault log book 12288 ≡ 0 = or-else (logFault log) _ e ∙ or-else (bookFault (headerOf log) book) _ f ∙ room-good in
-    goes-one _ _ 0 0 _ z refl (sym (pick-yes _ _ _ _ (eq-eqb _ 0 z) refl))
-
-module _ (log : List ℕ) (rs : List Record) (book out : List ℕ) where
-  -- what an accepted end leaves
-  abbrev pub endPaper : Paper
-  endPaper =
-      let t = tablesOf log in
-      let date = headerOf log .date in
-      paper idle (bookAfter t date book (timesOn t rs)) (put out 0 (findings t date book (timesOn t rs))) 12288
-
-  pub closes : (row : List ℕ) → endRefusal log rs row book (length out) ≡ 0
-      → Goes (paper (during log rs) book out 12288) (endDay row ∷ []) (0 ∷ []) (foundCount (tablesOf log) (timesOn (tablesOf log) rs) ∷ []) endPaper
-  unfolding refusal rule endRuled
-  closes row e =
-      let z = eq-eqb _ 0 e in
-      goes-one _ _ 0 _ _ e (ap (λ a. foundIn (ended a)) (sym (pick-yes _ _ _ _ z refl))) (sym (pick-yes _ _ _ _ z refl))
 
 -- ---- the example's day
 -- the records that it took, the latest first
@@ -190,11 +117,6 @@ raised-one false = refl
 total-is : (l : ℕ) → l < 6144 → totalAfter day 20240305 before worked-times l ≡ one 96 2 l
 unfolding totalAfter
 total-is l h = rw (one-date 96 20240304 1 (omega arith), one-hit l h, one-total 96 20240304 1 (omega arith) l h) (raised-one (eqb l 96))
-
-book-cong : (r r′ date : ℕ) (f g : ℕ → ℕ) → r ≡ r′ → ((l : ℕ) → l < 6144 → f l ≡ g l) → bookOf r date f ≡ bookOf r′ date g
-unfolding bookOf
-book-cong r r′ date f g e same =
-    ap₂ (λ (a b : List ℕ). a ++ b) (ap (λ (n : ℕ). headOf n date) e) (rows-cong _ _ 6144 (λ l h. ap (bytes 2) (same l h)))
 
 rulebook-is : day .rulebook ≡ 1
 unfolding tablesOf tablesIn

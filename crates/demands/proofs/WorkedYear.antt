@@ -38,8 +38,9 @@ use Rattle.demands.proofs.CallLaws.{paper, stands-book, runs-read, runs
 use Rattle.demands.proofs.TotalLaws.{Kept, kept-none, kept-day, ready, blank-sound, blank-rulebook, blank-date, blank-total}
 use Rattle.demands.proofs.LogLaws.{end-plain, clerk-rests}
 use Rattle.demands.proofs.Answers.{answers}
-use Rattle.demands.proofs.JoinRun.{written-room}
-use Rattle.demands.proofs.Worked.{Goes, goes-on, book-fits, opens, closes, row-long}
+use Rattle.demands.proofs.PaperLaws.{written-room}
+use Rattle.demands.proofs.RuledSteps.{Goes, goes-on, book-fits, opens, closes}
+use Rattle.demands.proofs.Worked.{row-long}
 
 -- ---- a day of five records by itself: tables without fault, records that are taken as `ns` says, on any book and buffer
 record DayGood (log : List ℕ) (trades : List Step) (ns ks : List ℕ) (rs : List Record) (date : ℕ) : Type 0 where

@@ -117,3 +117,7 @@ pub data Ran : Desk → List Step → List Given → Type 0 where
 unfoldable pub left : Desk → List Given → Desk
 left w [] = w
 left w (g ∷ gs) = left (g .after) gs
+
+-- room for all findings of a day: "At most 6,144, which is 49,152 bytes"
+abbrev pub fullRoom : ℕ
+fullRoom = 49152

@@ -23,7 +23,7 @@ use Rattle.desk.specs.Findings.{findings, foundCount}
 use Rattle.demands.specs.Counts.{timesOn, reachesAt}
 use Rattle.demands.specs.Days.{Ended, endedDay, carried, totalOver, bookOver, foundOn, blank}
 use Rattle.demands.specs.Listed.{Lists}
-use Rattle.demands.specs.Calls.{Step, makeBook, openDay, takeRecord, endDay, abandonDay, askBook, lendFindings, Reply, numberIn, Desk, Given, Gives, Ran, left}
+use Rattle.demands.specs.Calls.{Step, makeBook, openDay, takeRecord, endDay, abandonDay, askBook, lendFindings, Reply, numberIn, Desk, Given, Gives, Ran, left, fullRoom}
 use Rattle.demands.specs.Logs.{front, rowsOf, recordsIn, logNumber, ruledFile, Judges, Judged, JudgesAll, ruledLogs}
 use Rattle.demands.specs.Paper.{Course, idle, during, Paper, Ruled, endRefusal, rule, rules}
 use Rattle.demands.specs.Lent.{lastOpened, CountsHold}
@@ -181,4 +181,4 @@ FileOfDays = (book : List ℕ) (logs : List (List ℕ)) (js : List Judged) → s
 abbrev pub LogsFound : Type 0
 LogsFound = (book : List ℕ) (logs : List (List ℕ)) (js : List Judged) → sound book ≡ true → JudgesAll book logs js
     → (log : List ℕ) (w : Desk) → Judges (lastFile book js) log 0 w
-    → w .out ≡ put (replicate 49152 0) 0 (rows (foundOn book (loggedDay log) (logDays book [] logs)) ladders)
+    → w .out ≡ put (replicate fullRoom 0) 0 (rows (foundOn book (loggedDay log) (logDays book [] logs)) ladders)

@@ -14,7 +14,7 @@ use Rattle.desk.specs.declared.state.State.the-variants.{Closed}
 use Rattle.desk.specs.Cells.{cells}
 use Rattle.desk.specs.Offences.{groupAt}
 use Rattle.demands.specs.Days.{Ended, timesIn, offenceIn, foundOn, blank}
-use Rattle.demands.specs.Calls.{Step, makeBook, openDay, takeRecord, endDay, abandonDay, askBook, lendFindings, numberIn, Desk, Given, Ran, left}
+use Rattle.demands.specs.Calls.{Step, makeBook, openDay, takeRecord, endDay, abandonDay, askBook, lendFindings, numberIn, Desk, Given, Ran, left, fullRoom}
 use Rattle.demands.specs.Paper.{Course, idle, during}
 use Rattle.demands.specs.Logs.{Judged, JudgesAll}
 use Rattle.demands.specs.Lent.{HasCell, cellIn, lastOpened}
@@ -96,11 +96,7 @@ pub data StepsJoined (a b : ℕ) : List Step → List Step → Type 0 where
   more : {c c′ : Step} {cs cs′ : List Step} → StepJoined a b c c′ → StepsJoined a b cs cs′
       → StepsJoined a b (c ∷ cs) (c′ ∷ cs′)
 
--- "At most 6,144, which is 49,152 bytes"
-abbrev pub fullRoom : ℕ
-fullRoom = 49152
-
--- a findings buffer that is lent has that room, whatever its bytes; a call lends none
+-- a findings buffer that is lent has full room, whatever its bytes; a call lends none
 unfoldable pub roomy : Step → Bool
 roomy (lendFindings out) = leb fullRoom (length out)
 roomy (makeBook rulebook) = true

@@ -9,8 +9,9 @@ use lib.ListN.{take, drop, replicate}
 use Rattle.wire.specs.Buffers.{put}
 use Rattle.book.specs.Layout.{ladderOf}
 use Rattle.desk.specs.declared.end.Ended.the-variants.{Done, Refused}
+use Rattle.desk.specs.Cells.{cells}
 use Rattle.demands.specs.Samples.{bookWithOne}
-use Rattle.demands.specs.Calls.{Step, makeBook, openDay, takeRecord, endDay, abandonDay, askBook, lendFindings, Reply, made, moved, ended, told, lent, numberIn, Desk, Given, Ran, left}
+use Rattle.demands.specs.Calls.{Step, makeBook, openDay, takeRecord, endDay, abandonDay, askBook, lendFindings, Reply, made, moved, ended, told, lent, numberIn, Desk, Given, Ran, left, fullRoom}
 use Rattle.demands.specs.Logs.{clerkDesk}
 use Rattle.demands.specs.Paper.{idle, during, Paper, numbersOn, paperAfter}
 
@@ -102,14 +103,14 @@ pub record Worked : Type 0 where
   -- "findings 1": the last tells of one
   pub count : map (λ g. foundIn (g .reply)) given ≡ 0 ∷ 0 ∷ 0 ∷ 0 ∷ 0 ∷ 0 ∷ 1 ∷ []
   -- it stands from the buffer's start, and "Bytes past them stay"
-  pub findings : left workedDesk given .out ≡ put (replicate 49152 0) 0 workedFinding
+  pub findings : left workedDesk given .out ≡ put (replicate fullRoom 0) 0 workedFinding
   -- the book has the day's date, and total 2 for that group, kind and family alone
   pub book : left workedDesk given .book ≡ workedBook 20240305 2
 
 -- ---- refusals between
 -- no day is open, and the book has no bytes
 unfoldable pub noBook : Paper
-noBook = record { course = idle; book = []; out = []; room = 12288 }
+noBook = record { course = idle; book = []; out = []; room = cells }
 
 -- the example's tables with a book's mark, "AXB"
 unfoldable pub wrongMark : List ℕ
@@ -141,7 +142,7 @@ openSteps =
 
 -- the example's book and counts, and a findings buffer of 7 bytes
 unfoldable pub shortOut : Paper
-shortOut = record { course = idle; book = workedBook 20240304 1; out = replicate 7 0; room = 12288 }
+shortOut = record { course = idle; book = workedBook 20240304 1; out = replicate 7 0; room = cells }
 
 -- the example with a record of type 3 among the trades, 11; its end refused for the room, 20, and accepted once a
 -- buffer of 8 bytes is lent; then 10, none is open

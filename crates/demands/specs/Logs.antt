@@ -17,7 +17,7 @@ use Rattle.desk.specs.Cells.{cells}
 use Rattle.desk.specs.Findings.{findings, bookAfter}
 use Rattle.desk.specs.End.{rowFault}
 use Rattle.demands.specs.Counts.{timesOn}
-use Rattle.demands.specs.Calls.{openDay, takeRecord, endDay, numberIn, Desk, Given, Gives, fullRoom}
+use Rattle.demands.specs.Calls.{openDay, takeRecord, endDay, numberIn, Desk, deskOf, Given, Gives, fullRoom}
 use Rattle.demands.specs.Paper.{dayIn, takeNumber}
 
 -- ---- a log's parts
@@ -67,7 +67,7 @@ pub data Reads : Desk → List (List ℕ) → ℕ → Desk → Type 0 where
 
 -- "It reads the book from the file .. and has 12,288 counts of its own, all zero at the start"
 abbrev pub clerkDesk : List ℕ → Desk
-clerkDesk book = record { state = Closed; log = []; counts = replicate cells 0; book = book; out = replicate fullRoom 0 }
+clerkDesk book = deskOf Closed [] (replicate cells 0) book (replicate fullRoom 0)
 
 pub data Judges (book log : List ℕ) : ℕ → Desk → Type 0 where
   open-refused : {g : Given} → Gives (clerkDesk book) (openDay (front log)) g → (numberIn (g .reply) ≡ 0 → ⊥)

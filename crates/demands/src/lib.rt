@@ -1,5 +1,5 @@
-// What was asked for, stated in specs/ and proved in proofs/. The functions here tie the statements to the code: where a
-// call promises less, or a theorem goes, one of them is no longer proved. Nobody calls them.
+// What was asked for, stated in specs/ and proved in proofs/. The functions here tie the statements to the code: where
+// a call promises less, or a theorem goes, one of them is no longer proved. Nobody calls them.
 use book::ask::Asked;
 use book::fresh::NewBook;
 use desk::end::Ended;

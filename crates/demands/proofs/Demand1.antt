@@ -14,7 +14,7 @@ use Rattle.desk.specs.Abandon.{abandonAnswer}
 use Rattle.desk.proofs.Unique.{open-unique, take-unique, end-unique, abandon-unique}
 use Rattle.desk.proofs.Numbers.{moves-number, ends-number}
 use Rattle.demands.specs.Calls.{Step, Desk, Given, Gives, fresh-gives, open-gives, take-gives, end-gives, abandon-gives, ask-gives, lend-gives, Ran, none, next}
-use Rattle.demands.specs.Demand1.{AlwaysAnswered, OneAnswer, named, NumberNamed, RefusalKeeps}
+use Rattle.demands.specs.Demand1.{AlwaysAnswered, OneAnswer, namedNumber, NumberNamed, RefusalKeeps}
 use Rattle.demands.proofs.NumberLaws.{answered-number, fresh-number, ask-number}
 use Rattle.demands.proofs.Answers.{answers}
 
@@ -37,9 +37,9 @@ one-answer w (c ∷ cs) (g ∷ gs) (h ∷ hs) (next m r) (next n s) =
     let e : g ≡ h = one-given m n in
     ap₂ {C = List Given} (λ x xs. x ∷ xs) e (one-answer (h .after) cs gs hs (subst (λ (x : Given). Ran (x .after) cs gs) e r) s)
 
--- ---- its number is the one named
+-- ---- its number is the one namedNumber
 pub number-named : NumberNamed
-unfolding named abandonAnswer
+unfolding namedNumber abandonAnswer
 number-named w c g (fresh-gives {rulebook} m) = ap freshNumber (m .answer) ∙ fresh-number (w .book) rulebook
 number-named w c g (open-gives m) = moves-number m
 number-named w c g (take-gives m) = moves-number m
@@ -53,8 +53,8 @@ number-named w c g lend-gives = refl
 was : {A : Type 0} {t : Bool} {x old : A} (new : A) → t ≡ false → x ≡ pick t new old → x ≡ old
 was new e q = q ∙ sym (pick-no _ _ _ _ e refl)
 
-keeps : {w : Desk} {c : Step} {g : Given} → Gives w c g → eqb (named w c) 0 ≡ false → g .after ≡ w
-unfolding named freshBook abandonAnswer answered
+keeps : {w : Desk} {c : Step} {g : Given} → Gives w c g → eqb (namedNumber w c) 0 ≡ false → g .after ≡ w
+unfolding namedNumber freshBook abandonAnswer answered
 keeps (fresh-gives m) e = rw (was _ e (m .book))
 keeps (open-gives m) e = rw (was _ e (m .answer), was _ e (m .counts))
 keeps (take-gives m) e = rw (was _ e (m .answer), was _ e (m .counts))
@@ -64,4 +64,4 @@ keeps (ask-gives m) e = refl
 keeps lend-gives e = let no : true ≡ false = e in cc
 
 pub refusal-keeps : RefusalKeeps
-refusal-keeps w c g m some = keeps m (ne-eqb (named w c) 0 (λ z. some (number-named w c g m ∙ z)))
+refusal-keeps w c g m some = keeps m (ne-eqb (namedNumber w c) 0 (λ z. some (number-named w c g m ∙ z)))

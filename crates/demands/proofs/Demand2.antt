@@ -23,7 +23,7 @@ use Rattle.desk.specs.Open.{bookFault, handedFault}
 use Rattle.desk.specs.Findings.{foundAt, findings}
 use Rattle.desk.specs.End.{rowFault}
 use Rattle.demands.specs.Counts.{timesOn}
-use Rattle.demands.specs.Days.{Ended, endedDay, totalOver, foundOn, blank}
+use Rattle.demands.specs.Days.{PastDay, endedDay, totalOver, foundOn, blank}
 use Rattle.demands.specs.Calls.{Step, makeBook, openDay, takeRecord, endDay, abandonDay, askBook, lendFindings, numberIn, Desk, Given, Gives, Ran, none, next, left}
 use Rattle.demands.specs.Paper.{during, Paper, dayIn, endRefusal, endRuled, rule, paperAfter}
 use Rattle.demands.specs.Logs.{front, rowsOf, recordsIn, logNumber, dayBook, ruledFile, Judged, JudgesAll, ruledLogs}
@@ -195,13 +195,13 @@ history-more p h [] c = refl
 history-more p h (d ∷ cs) c = history-more (rule p (p .course) d .after) (recorded p (p .course) d h) cs c
 
 -- what the rules put in the buffer are the rows of what the day found
-rows-found : {from : List ℕ} {days : List Ended} (log book : List ℕ) (rs : List Record) → Kept from days book
+rows-found : {from : List ℕ} {days : List PastDay} (log book : List ℕ) (rs : List Record) → Kept from days book
     → findings (tablesOf log) (headerOf log .date) book (timesOn (tablesOf log) rs) ≡ rows (foundOn from (endedDay log rs) days) ladders
 unfolding findings
 rows-found log book rs k = ap (λ (b : List ℕ). rows (foundAt (tablesOf log) (headerOf log .date) b (timesOn (tablesOf log) rs)) ladders) (k .is)
 
 record EndFound (v : Desk) (p : Paper) (h : History) (row : List ℕ) (g : Given) : Type 0 where
-  day : Ended
+  day : PastDay
   one-more : recorded p (p .course) (endDay row) h .days ≡ day ∷ h .days
   bytes : g .after .out ≡ put (v .out) 0 (rows (foundOn (h .from) day (h .days)) ladders)
 
@@ -233,13 +233,13 @@ logs-ruled = judges-ruled
 pub always-read : AlwaysRead
 always-read = reads
 
-kept-pick : (t : Bool) (from : List ℕ) (days₁ days : List Ended) (book₁ book : List ℕ) → (t ≡ true → Kept from days₁ book₁) → Kept from days book
+kept-pick : (t : Bool) (from : List ℕ) (days₁ days : List PastDay) (book₁ book : List ℕ) → (t ≡ true → Kept from days₁ book₁) → Kept from days book
     → Kept from (pick t days₁ days) (pick t book₁ book)
 unfolding pick
 kept-pick true from days₁ days book₁ book y n = y refl
 kept-pick false from days₁ days book₁ book y n = n
 
-log-kept : (from : List ℕ) (days : List Ended) (book log : List ℕ) → Kept from days book
+log-kept : (from : List ℕ) (days : List PastDay) (book log : List ℕ) → Kept from days book
     → Kept from (pick (eqb (logNumber book log) 0) (loggedDay log ∷ days) days) (ruledFile book log)
 unfolding ruledFile logNumber
 log-kept from days book log k =
@@ -248,7 +248,7 @@ log-kept from days book log k =
     let q = handed-parts (front log) book 12288 (or-none (handedFault (front log) book 12288) _ (eqb-true _ 0 e) .0) in
     kept-day from days (front log) book (recordsIn [] (rowsOf log)) k (ready (front log) book (q .0) (q .1))) k
 
-pub logs-kept : (from : List ℕ) (days : List Ended) (book : List ℕ) (logs : List (List ℕ)) → Kept from days book
+pub logs-kept : (from : List ℕ) (days : List PastDay) (book : List ℕ) (logs : List (List ℕ)) → Kept from days book
     → Kept from (logDays book days logs) (lastFile book (ruledLogs book logs))
 unfolding lastFile ruledLogs logDays
 logs-kept from days book [] k = k

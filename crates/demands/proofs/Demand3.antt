@@ -13,7 +13,7 @@ use Rattle.demands.specs.Paper.{Course, idle, Paper, numbersOn}
 use Rattle.demands.specs.Lent.{HasCell, cellIn, CountsHold}
 use Rattle.demands.specs.Demand2.{Seen, begun, SoundRun, History, since}
 use Rattle.demands.specs.Join.{joinLog, between}
-use Rattle.demands.specs.Demand3.{Two, Added, Accepted, none, more, Fair, accepted as was-accepted, full-size as was-full-size, FreshRun, Run, CellsAdded, numbers, NothingLost, NothingLostInLogs}
+use Rattle.demands.specs.Demand3.{Two, Added, Accepted, none, more, Fair, accepted as was-accepted, full-size as was-full-size, FreshRun, Run, CellsAdded, NothingLost, NothingLostInLogs}
 use Rattle.demands.proofs.CallLaws.{Stands, step, stands-book, begins, runs-read}
 use Rattle.demands.proofs.NumberLaws.{number-is}
 use Rattle.demands.proofs.TotalLaws.{kept-none, blank-sound}

@@ -15,7 +15,7 @@ use Rattle.daylog.specs.Records.{recordOf}
 use Rattle.desk.specs.Cells.{cells}
 use Rattle.desk.specs.Open.{handedFault}
 use Rattle.desk.specs.End.{rowFault}
-use Rattle.demands.specs.Days.{Ended}
+use Rattle.demands.specs.Days.{PastDay}
 use Rattle.demands.specs.Paper.{dayIn}
 use Rattle.demands.specs.Logs.{front, rowsOf, isEnd, recordsIn, followFault, rowsNumber, logNumber, dayBook, ruledFile, ruledLogs}
 use Rattle.demands.specs.Demand2.{History, loggedDay, logDays, lastFile}
@@ -26,10 +26,10 @@ use Rattle.demands.proofs.JoinFiles.{front-joined, rows-joined}
 use Rattle.demands.proofs.JoinYears.{Years, book-same, years-day}
 use Rattle.demands.proofs.JoinRun.{open-same, take-same}
 
-abbrev on : List ℕ → List Ended → History
+abbrev on : List ℕ → List PastDay → History
 on from days = record { from = from; days = days }
 
-years-pick : {a b : ℕ} {from from′ : List ℕ} (t : Bool) (days₁ days days₁′ days′ : List Ended) (book₁ book book₁′ book′ : List ℕ)
+years-pick : {a b : ℕ} {from from′ : List ℕ} (t : Bool) (days₁ days days₁′ days′ : List PastDay) (book₁ book book₁′ book′ : List ℕ)
     → (t ≡ true → Years a b (on from days₁) (on from′ days₁′) book₁ book₁′) → Years a b (on from days) (on from′ days′) book book′
     → Years a b (on from (pick t days₁ days)) (on from′ (pick t days₁′ days′)) (pick t book₁ book) (pick t book₁′ book′)
 unfolding pick
@@ -46,7 +46,7 @@ module _ (a b : ℕ) (two : Two a b) where
       (take-same a b two log rs row e) (rows-same log e (recordOf row ∷ rs) more)
 
   -- ---- one log, on the files of the two years so far
-  module _ (from from′ : List ℕ) (days days′ : List Ended) (book book′ : List ℕ) (s : Years a b (on from days) (on from′ days′) book book′) (log : List ℕ) where
+  module _ (from from′ : List ℕ) (days days′ : List PastDay) (book book′ : List ℕ) (s : Years a b (on from days) (on from′ days′) book book′) (log : List ℕ) where
     handed-same : handedFault (front (joinLog a b log)) book′ cells ≡ handedFault (front log) book cells
     handed-same =
         ap (λ (l : List ℕ). handedFault l book′ cells) (front-joined a b log (two .first-a))
@@ -79,12 +79,12 @@ module _ (a b : ℕ) (two : Two a b) where
     log-years = rw number-same (years-pick (eqb (logNumber book log) 0) _ days _ days′ _ book _ book′ (λ e. day-more (eqb-true _ 0 e)) s)
 
   -- ---- any list of logs
-  pub record Files (from from′ : List ℕ) (days days′ : List Ended) (book book′ : List ℕ) (logs : List (List ℕ)) : Type 0 where
+  pub record Files (from from′ : List ℕ) (days days′ : List PastDay) (book book′ : List ℕ) (logs : List (List ℕ)) : Type 0 where
     pub numbers : map (λ j. j .number) (ruledLogs book′ (map (joinLog a b) logs)) ≡ map (λ j. j .number) (ruledLogs book logs)
     pub years : Years a b (on from (logDays book days logs)) (on from′ (logDays book′ days′ (map (joinLog a b) logs)))
         (lastFile book (ruledLogs book logs)) (lastFile book′ (ruledLogs book′ (map (joinLog a b) logs)))
 
-  pub files : (from from′ : List ℕ) (days days′ : List Ended) (book book′ : List ℕ) (logs : List (List ℕ))
+  pub files : (from from′ : List ℕ) (days days′ : List PastDay) (book book′ : List ℕ) (logs : List (List ℕ))
       → Years a b (on from days) (on from′ days′) book book′ → Files from from′ days days′ book book′ logs
   unfolding ruledLogs logDays lastFile
   files from from′ days days′ book book′ [] s = record { numbers = refl; years = s }

@@ -22,7 +22,7 @@ use Rattle.desk.specs.Open.{bookFault}
 use Rattle.desk.specs.Offences.{groupAt, kindAt, familyAt}
 use Rattle.desk.specs.Findings.{foundAt, bookAfter}
 use Rattle.demands.specs.Counts.{howMany, timesOf, timesOn, offence}
-use Rattle.demands.specs.Days.{Ended, endedDay, lastOn, carried, totalOver, offenceOn, offenceDays, blank}
+use Rattle.demands.specs.Days.{PastDay, endedDay, lastOn, carried, totalOver, offenceOn, offenceDays, blank}
 use Rattle.demands.specs.Demand2.{History}
 use Rattle.demands.specs.Join.{joinLog, Joined, between}
 use Rattle.demands.specs.Demand3.{Two, Other, Added, DayJoined, DaysJoined, none, more, NoFewer, YearJoined}
@@ -44,7 +44,7 @@ times-join a b two t t′ rs j = record {
 }
 
 -- ---- the days of the two runs
-pub last-same : {a b : ℕ} {from : List ℕ} {days days′ : List Ended} → DaysJoined a b from days days′ → lastOn from days′ ≡ lastOn from days
+pub last-same : {a b : ℕ} {from : List ℕ} {days days′ : List PastDay} → DaysJoined a b from days days′ → lastOn from days′ ≡ lastOn from days
 unfolding lastOn
 last-same none = refl
 last-same (more j rest) = j .date
@@ -57,8 +57,8 @@ pick-more true false o′ h = zero-le
 pick-more true true o′ h = let e : o′ ≡ true = h refl in rw e (omega arith)
 
 module _ (a b : ℕ) (from : List ℕ) (y l l′ : ℕ) where
-  days-more : ((d d′ : Ended) → d′ .records ≡ d .records → Joined a b (d .tables) (d′ .tables) → offenceOn l d ≡ true → offenceOn l′ d′ ≡ true)
-      → {days days′ : List Ended} → DaysJoined a b from days days′ → offenceDays y l days ≤ offenceDays y l′ days′
+  days-more : ((d d′ : PastDay) → d′ .records ≡ d .records → Joined a b (d .tables) (d′ .tables) → offenceOn l d ≡ true → offenceOn l′ d′ ≡ true)
+      → {days days′ : List PastDay} → DaysJoined a b from days days′ → offenceDays y l days ≤ offenceDays y l′ days′
   unfolding offenceDays howMany
   days-more h none = zero-le
   days-more h (more {d} {d′} j rest) =
@@ -68,8 +68,8 @@ module _ (a b : ℕ) (from : List ℕ) (y l l′ : ℕ) where
       omega (arith, days-more h rest)
 
 -- a ladder with no offence after the join has no offence day
-days-none : (a b : ℕ) (from : List ℕ) (y l : ℕ) → ((d d′ : Ended) → Joined a b (d .tables) (d′ .tables) → offenceOn l d′ ≡ false)
-    → {days days′ : List Ended} → DaysJoined a b from days days′ → offenceDays y l days′ ≡ 0
+days-none : (a b : ℕ) (from : List ℕ) (y l : ℕ) → ((d d′ : PastDay) → Joined a b (d .tables) (d′ .tables) → offenceOn l d′ ≡ false)
+    → {days days′ : List PastDay} → DaysJoined a b from days days′ → offenceDays y l days′ ≡ 0
 unfolding offenceDays howMany
 days-none a b from y l h none = refl
 days-none a b from y l h (more {d} {d′} j rest) =
@@ -79,13 +79,13 @@ days-none a b from y l h (more {d} {d′} j rest) =
 
 -- another group's ladder has the same
 module _ (a b : ℕ) (two : Two a b) (from : List ℕ) (y l : ℕ) (o : Other a b (groupAt l)) where
-  day-other : (d d′ : Ended) → d′ .records ≡ d .records → Joined a b (d .tables) (d′ .tables) → offenceOn l d′ ≡ offenceOn l d
+  day-other : (d d′ : PastDay) → d′ .records ≡ d .records → Joined a b (d .tables) (d′ .tables) → offenceOn l d′ ≡ offenceOn l d
   unfolding offenceOn
   day-other d d′ records tables =
       ap (λ rs. offence (d′ .tables) rs (groupAt l) (kindAt l) (familyAt l)) records
       ∙ offence-other a b (d .tables) (d′ .tables) tables (two .first-a) (two .differ) (d .records) (groupAt l) (kindAt l) (familyAt l) (o .not-a) (o .not-b)
 
-  days-other : {days days′ : List Ended} → DaysJoined a b from days days′ → offenceDays y l days′ ≡ offenceDays y l days
+  days-other : {days days′ : List PastDay} → DaysJoined a b from days days′ → offenceDays y l days′ ≡ offenceDays y l days
   unfolding offenceDays howMany
   days-other none = refl
   days-other (more {d} {d′} j rest) =
@@ -203,7 +203,7 @@ module _ (a b : ℕ) (two : Two a b) (h h′ : History) (book book′ : List ℕ
   ladder-there : (g k f : ℕ) → 1 ≤ g → g ≤ 128 → 1 ≤ k → k ≤ 3 → f ≤ 15 → ladderOf g k f < 6144
   ladder-there g k f p q r t u = omega arith
 
-  on-ladder : (g k f : ℕ) → 1 ≤ g → 1 ≤ k → k ≤ 3 → f ≤ 15 → (d : Ended) → offenceOn (ladderOf g k f) d ≡ offence (d .tables) (d .records) g k f
+  on-ladder : (g k f : ℕ) → 1 ≤ g → 1 ≤ k → k ≤ 3 → f ≤ 15 → (d : PastDay) → offenceOn (ladderOf g k f) d ≡ offence (d .tables) (d .records) g k f
   unfolding offenceOn
   on-ladder g k f p q r t d =
       let e1 : groupAt (ladderOf g k f) ≡ g = omega arith in
@@ -222,7 +222,7 @@ module _ (a b : ℕ) (two : Two a b) (h h′ : History) (book book′ : List ℕ
       let f = sound-facts book (s .kept .good) in
       one-or-two (rulebookOf (h .from)) (omega (arith, s .kept .rulebook, f .first-rulebook)) (omega (arith, s .kept .rulebook, f .last-rulebook))
 
-  known-days : (days : List Ended) → OfRulebook (rulebookOf (h .from)) days → KnownDays days
+  known-days : (days : List PastDay) → OfRulebook (rulebookOf (h .from)) days → KnownDays days
   unfolding OfRulebook
   known-days [] o = no-known
   known-days (d ∷ days) o = more-known (go known) (known-days days (o .1))
@@ -233,7 +233,7 @@ module _ (a b : ℕ) (two : Two a b) (h h′ : History) (book book′ : List ℕ
 
   -- group g's offences of a kind in a family stay as b's: then b has no fewer days, and a third of no fewer is no fewer
   no-fewer : (g kind family : ℕ) → 1 ≤ g → g ≤ 128 → 1 ≤ kind → kind ≤ 3 → family ≤ 15
-      → ((d d′ : Ended) → Joined a b (d .tables) (d′ .tables) → offence (d .tables) (d .records) g kind family ≡ true → offence (d′ .tables) (d .records) b kind family ≡ true)
+      → ((d d′ : PastDay) → Joined a b (d .tables) (d′ .tables) → offence (d .tables) (d .records) g kind family ≡ true → offence (d′ .tables) (d .records) b kind family ≡ true)
       → NoFewer g b (h .from) book book′ (h .days) (h′ .days) kind family
   no-fewer g kind family low high first last most stay =
       let lg = ladderOf g kind family in
@@ -249,7 +249,7 @@ module _ (a b : ℕ) (two : Two a b) (h h′ : History) (book book′ : List ℕ
             (fewer _ _ (more-days y));
       }
 
-  none-on : (l : ℕ) → groupAt l ≡ a → (d d′ : Ended) → Joined a b (d .tables) (d′ .tables) → offenceOn l d′ ≡ false
+  none-on : (l : ℕ) → groupAt l ≡ a → (d d′ : PastDay) → Joined a b (d .tables) (d′ .tables) → offenceOn l d′ ≡ false
   unfolding offenceOn
   none-on l is-a d d′ j =
       ap (λ (g : ℕ). offence (d′ .tables) (d′ .records) g (kindAt l) (familyAt l)) is-a

@@ -15,13 +15,13 @@ use Rattle.rules.specs.Ladders.{rung, sanction}
 use Rattle.desk.specs.Offences.{groupAt}
 use Rattle.desk.specs.Findings.{memberOn}
 use Rattle.demands.specs.Counts.{howMany}
-use Rattle.demands.specs.Days.{Ended, offenceOn, offenceDays, carried, totalOver}
+use Rattle.demands.specs.Days.{PastDay, offenceOn, offenceDays, carried, totalOver}
 use Rattle.demands.specs.Restrictions.{sanctionOn, noOpening, sanctions, restrictions}
 
 -- every day's rulebook is 1 or 2
-pub data KnownDays : List Ended → Type 0 where
+pub data KnownDays : List PastDay → Type 0 where
   none : KnownDays []
-  more : {d : Ended} {days : List Ended} → (d .tables .rulebook ≡ 1) ⊎ (d .tables .rulebook ≡ 2) → KnownDays days
+  more : {d : PastDay} {days : List PastDay} → (d .tables .rulebook ≡ 1) ⊎ (d .tables .rulebook ≡ 2) → KnownDays days
       → KnownDays (d ∷ days)
 
 -- ---- one finding: its sanction forbids to open exactly at rung 3, with a member in the group or without
@@ -72,22 +72,22 @@ step true m rulebook n k =
 
 -- ---- the days, on a book from which nothing is carried
 module _ (from : List ℕ) (y l : ℕ) (nothing : carried from y l ≡ 0) where
-  days-next : (d : Ended) (days : List Ended) (t : Bool) → eqb (year (d .date)) y ≡ t
+  days-next : (d : PastDay) (days : List PastDay) (t : Bool) → eqb (year (d .date)) y ≡ t
       → offenceDays y l (d ∷ days) ≡ pick (t && offenceOn l d) 1 0 + offenceDays y l days
   unfolding offenceDays howMany
   days-next d days t e = rw e
 
-  sanctions-next : (d : Ended) (days : List Ended) (t : Bool) → eqb (year (d .date)) y ≡ t
+  sanctions-next : (d : PastDay) (days : List PastDay) (t : Bool) → eqb (year (d .date)) y ≡ t
       → restrictions from y l (d ∷ days) ≡ pick (t && noOpening (sanctionOn from l d days)) 1 0 + restrictions from y l days
   unfolding sanctions
   sanctions-next d days t e = rw e
 
-  total-next : (d : Ended) (days : List Ended) → year (d .date) ≡ y
+  total-next : (d : PastDay) (days : List PastDay) → year (d .date) ≡ y
       → totalOver from (year (d .date)) l (d ∷ days) ≡ pick (offenceOn l d) 1 0 + offenceDays y l days
   unfolding totalOver
   total-next d days e = rw (e, nothing, zero-add) (days-next d days true (eq-eqb (year (d .date)) y e))
 
-  sanction-next : (d : Ended) (days : List Ended) → year (d .date) ≡ y
+  sanction-next : (d : PastDay) (days : List PastDay) → year (d .date) ≡ y
       → sanctionOn from l d days
       ≡ pick (offenceOn l d)
       (sanction (d .tables .rulebook) (rung (pick (offenceOn l d) 1 0 + offenceDays y l days)) (memberOn (d .tables) (groupAt l))) 0
@@ -95,14 +95,14 @@ module _ (from : List ℕ) (y l : ℕ) (nothing : carried from y l ≡ 0) where
   sanction-next d days e = rw (total-next d days e)
 
   -- one more day, of the year or not
-  next-day : (d : Ended) (days : List Ended) (t : Bool) → eqb (year (d .date)) y ≡ t → (d .tables .rulebook ≡ 1) ⊎ (d .tables .rulebook ≡ 2)
+  next-day : (d : PastDay) (days : List PastDay) (t : Bool) → eqb (year (d .date)) y ≡ t → (d .tables .rulebook ≡ 1) ⊎ (d .tables .rulebook ≡ 2)
       → restrictions from y l days ≡ offenceDays y l days / 3 → restrictions from y l (d ∷ days) ≡ offenceDays y l (d ∷ days) / 3
   next-day d days true e known so =
       rw (sanctions-next d days true e, days-next d days true e, sanction-next d days (eqb-true _ y e), so)
       (step (offenceOn l d) (memberOn (d .tables) (groupAt l)) (d .tables .rulebook) (offenceDays y l days) known)
   next-day d days false e known so = rw (sanctions-next d days false e, days-next d days false e, so) (unfold pick in omega arith)
 
-  pub third : (days : List Ended) → KnownDays days → restrictions from y l days ≡ offenceDays y l days / 3
+  pub third : (days : List PastDay) → KnownDays days → restrictions from y l days ≡ offenceDays y l days / 3
   third [] k = unfold sanctions offenceDays howMany in refl
   third (d ∷ days) (more known k) = next-day d days (eqb (year (d .date)) y) refl known (third days k)
 

@@ -24,7 +24,7 @@ use Rattle.desk.specs.Offences.{groupAt, kindAt, familyAt, offendsOn}
 use Rattle.desk.specs.Findings.{laterYear, memberOn, finding, totalAfter, foundAt, bookAfter}
 use Rattle.desk.proofs.BookKept.{after-is, kept-sound, kept-total, tables-rulebook}
 use Rattle.demands.specs.Counts.{howMany, timesOn, offence}
-use Rattle.demands.specs.Days.{Ended, endedDay, offenceOn, offenceDays, lastOn, carried, totalOver, bookOver, blank}
+use Rattle.demands.specs.Days.{PastDay, endedDay, offenceOn, offenceDays, lastOn, carried, totalOver, bookOver, blank}
 use Rattle.demands.specs.Restrictions.{sanctionOn, Sanctioned, none, more}
 use Rattle.demands.proofs.DayLaws.{book-cong}
 use Rattle.demands.proofs.ListedLaws.{offends-is}
@@ -54,23 +54,23 @@ ended-sound log book rs q =
     kept-sound (tablesOf log) (headerOf log .date) book (timesOn (tablesOf log) rs) (q .facts) (q .same) (q .date) (q .later)
 
 -- ---- days on a book, the latest first, each later than the one before
-unfoldable pub Rising : List ℕ → List Ended → Type 0
+unfoldable pub Rising : List ℕ → List PastDay → Type 0
 Rising from [] = Unit {0}
 Rising from (d ∷ days) = (lastOn from days < d .date) × Rising from days
 
 -- days of one rulebook
-unfoldable pub OfRulebook : ℕ → List Ended → Type 0
+unfoldable pub OfRulebook : ℕ → List PastDay → Type 0
 OfRulebook rulebook [] = Unit {0}
 OfRulebook rulebook (d ∷ days) = (d .tables .rulebook ≡ rulebook) × OfRulebook rulebook days
 
 -- the book's own date is the earliest
-earliest : (from : List ℕ) (days : List Ended) → Rising from days → lastDate from ≤ lastOn from days
+earliest : (from : List ℕ) (days : List PastDay) → Rising from days → lastDate from ≤ lastOn from days
 unfolding lastOn Rising
 earliest from [] r = omega arith
 earliest from (d ∷ days) r = omega (arith, r .0, earliest from days (r .1))
 
 -- days of earlier years add nothing
-earlier-none : (from : List ℕ) (y l : ℕ) (days : List Ended) → Rising from days → year (lastOn from days) < y → offenceDays y l days ≡ 0
+earlier-none : (from : List ℕ) (y l : ℕ) (days : List PastDay) → Rising from days → year (lastOn from days) < y → offenceDays y l days ≡ 0
 unfolding offenceDays howMany lastOn Rising
 earlier-none from y l [] r h = refl
 earlier-none from y l (d ∷ days) r h =
@@ -83,13 +83,13 @@ carried-later : (from : List ℕ) (y l : ℕ) → year (lastDate from) < y → c
 unfolding carried
 carried-later from y l h = sym (pick-yes _ _ _ _ (lt-ltb _ _ h) refl)
 
-total-later : (from : List ℕ) (y l : ℕ) (days : List Ended) → Rising from days → year (lastOn from days) < y → totalOver from y l days ≡ 0
+total-later : (from : List ℕ) (y l : ℕ) (days : List PastDay) → Rising from days → year (lastOn from days) < y → totalOver from y l days ≡ 0
 unfolding totalOver
 total-later from y l days r h =
     omega (arith, earlier-none from y l days r h, carried-later from y l (omega (arith, year-rises (lastDate from) (lastOn from days) (earliest from days r))))
 
 -- ---- the book of the days, with what can be read from it
-pub record Kept (from : List ℕ) (days : List Ended) (book : List ℕ) : Type 0 where
+pub record Kept (from : List ℕ) (days : List PastDay) (book : List ℕ) : Type 0 where
   pub is : book ≡ bookOver from days
   pub rulebook : rulebookOf book ≡ rulebookOf from
   pub last : lastDate book ≡ lastOn from days
@@ -130,12 +130,12 @@ unfolding carried blank
 blank-carries rulebook y l h =
     ap (pick (ltb (year (lastDate (blank rulebook))) y) 0) (total-of-book rulebook 0 (λ l. 0) l h (omega arith)) ∙ pick-same _ 0
 
-pub blank-total : (rulebook y l : ℕ) (days : List Ended) → l < 6144 → totalOver (blank rulebook) y l days ≡ offenceDays y l days
+pub blank-total : (rulebook y l : ℕ) (days : List PastDay) → l < 6144 → totalOver (blank rulebook) y l days ≡ offenceDays y l days
 unfolding totalOver
 blank-total rulebook y l days h = omega (arith, blank-carries rulebook y l h)
 
 -- ---- a day ended
-module _ (from : List ℕ) (days : List Ended) (log book : List ℕ) (rs : List Record) (k : Kept from days book) (q : Ready log book) where
+module _ (from : List ℕ) (days : List PastDay) (log book : List ℕ) (rs : List Record) (k : Kept from days book) (q : Ready log book) where
   abbrev date : ℕ
   date = headerOf log .date
 

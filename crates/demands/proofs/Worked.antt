@@ -213,7 +213,7 @@ worked =
     record {
       given = all .given;
       ran = all .ran;
-      numbers = runs-read (λ x. numberIn (x .reply)) s (all .ran) ∙ g .numbers;
+      numbered = runs-read (λ x. numberIn (x .reply)) s (all .ran) ∙ g .numbers;
       count = runs-read (λ x. foundIn (x .reply)) s (all .ran) ∙ g .counts;
       findings = stands-out r ∙ ap (λ (x : Paper). x .out) (g .after);
       book = stands-book r ∙ ap (λ (x : Paper). x .book) (g .after);

@@ -27,11 +27,11 @@ use Rattle.desk.specs.Judging.{tableFault}
 use Rattle.desk.specs.Offences.{familyOf}
 use Rattle.desk.specs.End.{endGood, rowFault}
 use Rattle.demands.specs.Counts.{howMany, timesOf, reachesOn, offence}
-use Rattle.demands.specs.Days.{Ended, endedDay, offenceOn, offenceDays, lastOn, blank}
-use Rattle.demands.specs.Calls.{Step, numberIn, Given, Ran, left}
+use Rattle.demands.specs.Days.{PastDay, endedDay, offenceOn, offenceDays, lastOn, blank}
+use Rattle.demands.specs.Calls.{Step, numberIn, Given, numbers, Ran, left}
 use Rattle.demands.specs.Paper.{idle, during, Paper, dayIn, takeNumber, takeRuled, rule, rules, numbersOn, paperAfter}
 use Rattle.demands.specs.Join.{byPlace, joinLog}
-use Rattle.demands.specs.Demand3.{opens as open-joins, takes, ends, StepsJoined, none, more, roomy, allRoomy, full-size, FreshRun, numbers}
+use Rattle.demands.specs.Demand3.{opens as open-joins, takes, ends, StepsJoined, none, more, roomy, allRoomy, full-size, FreshRun}
 use Rattle.demands.specs.Worked.{tablesFor, tradeOn, tradeRow, endRow, wholeDay}
 use Rattle.demands.specs.WorkedYear.{yearTables, yearDesk, firstTrades, secondTrades, yearWith, yearSteps, yearJoined, WorkedYear}
 use Rattle.demands.proofs.CallLaws.{paper, stands-book, runs-read, runs-stand}
@@ -51,7 +51,7 @@ record DayGood (log : List ℕ) (trades : List Step) (ns ks : List ℕ) (rs : Li
   five : rowFault (dayIn log rs) (endRow 5) ≡ 0
 
 -- steps that leave no day open, these days on the book, and full room for findings
-record Leaves (p : Paper) (cs : List Step) (ns : List ℕ) (days : List Ended) : Type 0 where
+record Leaves (p : Paper) (cs : List Step) (ns : List ℕ) (days : List PastDay) : Type 0 where
   found : List ℕ
   book : List ℕ
   out : List ℕ
@@ -60,7 +60,7 @@ record Leaves (p : Paper) (cs : List Step) (ns : List ℕ) (days : List Ended) :
   room : 49152 ≤ length out
 
 -- such a day, on the book of the days before it
-day-leaves : {log : List ℕ} {trades : List Step} {ns ks : List ℕ} {rs : List Record} {date : ℕ} {days : List Ended} {book : List ℕ}
+day-leaves : {log : List ℕ} {trades : List Step} {ns ks : List ℕ} {rs : List Record} {date : ℕ} {days : List PastDay} {book : List ℕ}
     → DayGood log trades ns ks rs date → (out : List ℕ) → Kept (blank 1) days book → lastOn (blank 1) days < date → 49152 ≤ length out
     → Leaves (paper idle book out 12288) (wholeDay log trades) (0 ∷ (ns ++ (0 ∷ []))) (endedDay log rs ∷ days)
 unfolding wholeDay
@@ -76,7 +76,7 @@ day-leaves {log} {rs = rs} {days = days} {book = book} d out k later full =
     }
 
 -- a day after others
-leaves-on : {p : Paper} {cs ds : List Step} {ns ms : List ℕ} {days days′ : List Ended} (a : Leaves p cs ns days)
+leaves-on : {p : Paper} {cs ds : List Step} {ns ms : List ℕ} {days days′ : List PastDay} (a : Leaves p cs ns days)
     → Leaves (paper idle (a .book) (a .out) 12288) ds ms days′ → Leaves p (cs ++ ds) (ns ++ ms) days′
 leaves-on a b = record { found = _; book = b .book; out = b .out; goes = goes-on (a .goes) (b .goes); kept = b .kept; room = b .room }
 
@@ -101,7 +101,7 @@ module _ (g : ℕ) where
   second-day e =
       record { good = e; ours = refl; dated = refl; taken = λ book out. record { numbers = refl; counts = refl; after = refl }; five = refl }
 
-  abbrev yearDays : List Ended
+  abbrev yearDays : List PastDay
   yearDays = endedDay (yearTables 3 g) secondRecords ∷ endedDay (yearTables 2 g) firstRecords ∷ []
 
 -- no fault in their tables, in group 3 and in group 4
@@ -193,7 +193,7 @@ worked-year =
       };
       first-tables = tables-join .0;
       second-tables = tables-join .1;
-      numbers = numbers-are 3 (tables-good .0) (tables-good .1) (all .ran);
+      numbered = numbers-are 3 (tables-good .0) (tables-good .1) (all .ran);
       same-numbers = numbers-are 4 (tables-good .2) (tables-good .3) r′ ∙ sym (numbers-are 3 (tables-good .0) (tables-good .1) (all .ran));
       before-3 = total-is 3 (tables-good .0) (tables-good .1) (all .ran) 96 (omega arith) ∙ offences .0;
       before-4 = total-is 3 (tables-good .0) (tables-good .1) (all .ran) 144 (omega arith) ∙ offences .1;

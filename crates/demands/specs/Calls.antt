@@ -2,7 +2,7 @@
 -- left them". What a call gives is what its contract promises, and nothing else is known of it.
 use mathlib.Core.Path.{_≡_}
 use Prim.Native.Nat.{ℕ}
-use mathlib.Core.List.{List, [], _∷_}
+use mathlib.Core.List.{List, [], _∷_, map}
 use Rattle.book.specs.declared.fresh.NewBook.{NewBook}
 use Rattle.book.specs.declared.ask.Asked.{Asked}
 use Rattle.book.specs.Fresh.{freshNumber, FreshGives}
@@ -61,6 +61,10 @@ deskOf state log counts book out = record { state = state; log = log; counts = c
 pub record Given : Type 0 where
   pub reply : Reply
   pub after : Desk
+
+-- the numbers of a list of answers
+abbrev pub numbers : List Given → List ℕ
+numbers gs = map (λ g. numberIn (g .reply)) gs
 
 -- a refusal leaves the state, and the tables of the day that is open
 abbrev pub stateAfter : State → Answer → State

@@ -26,17 +26,17 @@ abbrev pub OneAnswer : Type 0
 OneAnswer = (w : Desk) (cs : List Step) (gs gs′ : List Given) → Ran w cs gs → Ran w cs gs′ → gs ≡ gs′
 
 -- ---- "the number the specification names, in the order it names": each call's chain of refusals, 0 for none
-unfoldable pub named : Desk → Step → ℕ
-named w (makeBook rulebook) = freshFault (length (w .book)) rulebook
-named w (openDay log) = openFault (w .state) log (w .book) (w .counts)
-named w (takeRecord row) = takeFault (w .state) (w .log) row (w .counts)
-named w (endDay row) = endFault (w .state) (w .log) row (w .book) (w .counts) (w .out)
-named w abandonDay = abandonFault (w .state)
-named w (askBook group kind family) = askFault (w .book) group kind family
-named w (lendFindings out) = 0
+unfoldable pub namedNumber : Desk → Step → ℕ
+namedNumber w (makeBook rulebook) = freshFault (length (w .book)) rulebook
+namedNumber w (openDay log) = openFault (w .state) log (w .book) (w .counts)
+namedNumber w (takeRecord row) = takeFault (w .state) (w .log) row (w .counts)
+namedNumber w (endDay row) = endFault (w .state) (w .log) row (w .book) (w .counts) (w .out)
+namedNumber w abandonDay = abandonFault (w .state)
+namedNumber w (askBook group kind family) = askFault (w .book) group kind family
+namedNumber w (lendFindings out) = 0
 
 abbrev pub NumberNamed : Type 0
-NumberNamed = (w : Desk) (c : Step) (g : Given) → Gives w c g → numberIn (g .reply) ≡ named w c
+NumberNamed = (w : Desk) (c : Step) (g : Given) → Gives w c g → numberIn (g .reply) ≡ namedNumber w c
 
 -- ---- "and book, counts and findings stay exactly as they were"; so do the state and the tables of the open day
 abbrev pub RefusalKeeps : Type 0

@@ -21,7 +21,7 @@ use Rattle.desk.specs.declared.state.State.the-variants.{Closed}
 use Rattle.desk.specs.Offences.{lowestOn}
 use Rattle.desk.specs.Findings.{findings, foundCount}
 use Rattle.demands.specs.Counts.{timesOn, reachesAt}
-use Rattle.demands.specs.Days.{Ended, endedDay, carried, totalOver, bookOver, foundOn, blank}
+use Rattle.demands.specs.Days.{PastDay, endedDay, carried, totalOver, bookOver, foundOn, blank}
 use Rattle.demands.specs.Listed.{Lists}
 use Rattle.demands.specs.Calls.{Step, makeBook, openDay, takeRecord, endDay, abandonDay, askBook, lendFindings, Reply, numberIn, Desk, Given, Gives, Ran, left, fullRoom}
 use Rattle.demands.specs.Logs.{front, rowsOf, recordsIn, logNumber, ruledFile, Judges, Judged, JudgesAll, ruledLogs}
@@ -89,7 +89,7 @@ LowestId = (log : List ℕ) (rs : List Record) (ladder place : ℕ) → logFault
 -- the book that the days stand on, and the days ended since, the latest first
 pub record History : Type 0 where
   pub from : List ℕ
-  pub days : List Ended
+  pub days : List PastDay
 
 -- what a step adds: a fresh book begins anew, and a day that ends is one more
 unfoldable pub recorded : Paper → Course → Step → History → History
@@ -138,7 +138,7 @@ SanctionsFound = (w : Desk) (cs : List Step) (gs : List Given) → SoundRun w cs
 
 -- an accepted end after any such run: one day more, and in the buffer, from its start, what it found on each ladder
 pub record Found (w : Desk) (cs : List Step) (gs : List Given) (row : List ℕ) (g : Given) : Type 0 where
-  pub day : Ended
+  pub day : PastDay
   pub one-more : since w (cs ++ endDay row ∷ []) .days ≡ day ∷ since w cs .days
   pub bytes : g .after .out ≡ put (left w gs .out) 0 (rows (foundOn (since w cs .from) day (since w cs .days)) ladders)
 
@@ -160,11 +160,11 @@ abbrev pub AlwaysRead : Type 0
 AlwaysRead = (book : List ℕ) (logs : List (List ℕ)) → Read book logs
 
 -- the day of a log
-abbrev pub loggedDay : List ℕ → Ended
+abbrev pub loggedDay : List ℕ → PastDay
 loggedDay log = endedDay (front log) (recordsIn [] (rowsOf log))
 
 -- from a sound book's file on, the file is the book of the days whose logs were accepted
-unfoldable pub logDays : List ℕ → List Ended → List (List ℕ) → List Ended
+unfoldable pub logDays : List ℕ → List PastDay → List (List ℕ) → List PastDay
 logDays book days [] = days
 logDays book days (log ∷ logs) =
     logDays (ruledFile book log) (pick (eqb (logNumber book log) 0) (loggedDay log ∷ days) days) logs

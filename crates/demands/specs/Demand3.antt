@@ -13,8 +13,8 @@ use Rattle.daylog.specs.Tables.{tablesOf}
 use Rattle.desk.specs.declared.state.State.the-variants.{Closed}
 use Rattle.desk.specs.Cells.{cells}
 use Rattle.desk.specs.Offences.{groupAt}
-use Rattle.demands.specs.Days.{Ended, timesIn, offenceIn, foundOn, blank}
-use Rattle.demands.specs.Calls.{Step, makeBook, openDay, takeRecord, endDay, abandonDay, askBook, lendFindings, numberIn, Desk, Given, Ran, left, fullRoom}
+use Rattle.demands.specs.Days.{PastDay, timesIn, offenceIn, foundOn, blank}
+use Rattle.demands.specs.Calls.{Step, makeBook, openDay, takeRecord, endDay, abandonDay, askBook, lendFindings, numberIn, Desk, Given, numbers, Ran, left, fullRoom}
 use Rattle.demands.specs.Paper.{Course, idle, during}
 use Rattle.demands.specs.Logs.{Judged, JudgesAll}
 use Rattle.demands.specs.Lent.{HasCell, cellIn, lastOpened}
@@ -46,7 +46,7 @@ pub record Added (a b : ℕ) (n n′ : (group kind place : ℕ) → ℕ) (across
       → n′ group kind place ≡ n group kind place
 
 -- ---- of a day: `before` and `before′` are the days before it, on the book `from`
-pub record DayJoined (a b : ℕ) (from : List ℕ) (d d′ : Ended) (before before′ : List Ended) : Type 0 where
+pub record DayJoined (a b : ℕ) (from : List ℕ) (d d′ : PastDay) (before before′ : List PastDay) : Type 0 where
   pub date : d′ .date ≡ d .date
   pub records : d′ .records ≡ d .records
   pub tables : Joined a b (d .tables) (d′ .tables)
@@ -58,19 +58,19 @@ pub record DayJoined (a b : ℕ) (from : List ℕ) (d d′ : Ended) (before befo
   pub others : (l : ℕ) → l < ladders → Other a b (groupAt l) → foundOn from d′ before′ l ≡ foundOn from d before l
   pub gone : (l : ℕ) → l < ladders → groupAt l ≡ a → foundOn from d′ before′ l ≡ []
 
-pub data DaysJoined (a b : ℕ) (from : List ℕ) : List Ended → List Ended → Type 0 where
+pub data DaysJoined (a b : ℕ) (from : List ℕ) : List PastDay → List PastDay → Type 0 where
   none : DaysJoined a b from [] []
-  more : {d d′ : Ended} {days days′ : List Ended} → DayJoined a b from d d′ days days′ → DaysJoined a b from days days′
+  more : {d d′ : PastDay} {days days′ : List PastDay} → DayJoined a b from d d′ days days′ → DaysJoined a b from days days′
       → DaysJoined a b from (d ∷ days) (d′ ∷ days′)
 
 -- ---- of the days and the books that they leave: totals at the end, and opening restrictions in each year
 -- group g had no more on a kind's ladder in a family than group b has after the join
-pub record NoFewer (g b : ℕ) (from book book′ : List ℕ) (days days′ : List Ended) (kind family : ℕ) : Type 0 where
+pub record NoFewer (g b : ℕ) (from book book′ : List ℕ) (days days′ : List PastDay) (kind family : ℕ) : Type 0 where
   pub totals : totalAt book (ladderOf g kind family) ≤ totalAt book′ (ladderOf b kind family)
   pub restricted : (y : ℕ)
       → restrictions from y (ladderOf g kind family) days ≤ restrictions from y (ladderOf b kind family) days′
 
-pub record YearJoined (a b : ℕ) (from book book′ : List ℕ) (days days′ : List Ended) : Type 0 where
+pub record YearJoined (a b : ℕ) (from book book′ : List ℕ) (days days′ : List PastDay) : Type 0 where
   pub each : DaysJoined a b from days days′
   pub than-a : (kind family : ℕ) → 1 ≤ kind → kind ≤ 3 → family ≤ 15
       → NoFewer a b from book book′ days days′ kind family
@@ -142,9 +142,6 @@ pub record Run (a b rulebook : ℕ) (w w′ : Desk) (cs cs′ : List Step) (gs g
 abbrev pub CellsAdded : (a b : ℕ) → Course → (c c′ : List ℕ) → Type 0
 CellsAdded a b idle c c′ = Unit {0}
 CellsAdded a b (during log rs) c c′ = Added a b (cellIn c) (cellIn c′) (between (tablesOf log) rs a b)
-
-abbrev pub numbers : List Given → List ℕ
-numbers gs = map (λ g. numberIn (g .reply)) gs
 
 -- each call, refused ones too, gets the number that it had: an accepted one is accepted again
 abbrev pub SameNumbers : (gs gs′ : List Given) → Type 0

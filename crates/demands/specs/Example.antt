@@ -9,7 +9,7 @@ use Rattle.wire.specs.Choice.{pick}
 use Rattle.book.specs.Layout.{ladderOf}
 use Rattle.daylog.specs.declared.record.Record.{Record}
 use Rattle.daylog.specs.Tables.{Tables}
-use Rattle.demands.specs.Days.{Ended, blank}
+use Rattle.demands.specs.Days.{PastDay, blank}
 use Rattle.demands.specs.Samples.{futures, plainTrade}
 use Rattle.demands.specs.Join.{Joined}
 use Rattle.demands.specs.Restrictions.{sanctions, restrictions}
@@ -36,20 +36,20 @@ unfoldable pub ownTrade : Record
 ownTrade = plainTrade 11 11
 
 -- five of them, and so an offence
-unfoldable pub dayOf : (date group : ℕ) → Ended
+unfoldable pub dayOf : (date group : ℕ) → PastDay
 dayOf date group = record { date = date; tables = tablesWith group; records = replicate 5 ownTrade }
 
 -- three days of January 2024, the latest first, with account 11 in a group: in 1, and after the join in 2
-unfoldable pub daysWith : (group : ℕ) → List Ended
+unfoldable pub daysWith : (group : ℕ) → List PastDay
 daysWith group = dayOf 20240104 group ∷ dayOf 20240103 group ∷ dayOf 20240102 group ∷ []
 
 -- ---- the two ways to count, in 2024, on the ladder of a group for self-trades in futures
 -- findings with sanction 3
-unfoldable pub threeAlone : (group : ℕ) → List Ended → ℕ
+unfoldable pub threeAlone : (group : ℕ) → List PastDay → ℕ
 threeAlone group days = sanctions (λ s. eqb s 3) (blank 1) 2024 (ladderOf group 1 0) days
 
 -- findings with sanction 3 or 5
-unfoldable pub threeOrFive : (group : ℕ) → List Ended → ℕ
+unfoldable pub threeOrFive : (group : ℕ) → List PastDay → ℕ
 threeOrFive group days = restrictions (blank 1) 2024 (ladderOf group 1 0) days
 
 pub record WhyThreeOrFive : Type 0 where

@@ -37,7 +37,7 @@ lastOpened p last (c ∷ cs) =
 -- ---- what the counts hold that were lent
 -- a cell is the number of records that count for its group and kind on its contract, and 0 where there is no contract;
 -- the numbers past the 12,288th are as they were lent
-pub record Counted (log : List ℕ) (rs : List Record) (lent c : List ℕ) : Type 0 where
+pub record CellsHold (log : List ℕ) (rs : List Record) (lent c : List ℕ) : Type 0 where
   pub long : length c ≡ length lent
   pub times : (group kind place : ℕ) → HasCell group kind place
       → cellIn c group kind place ≡ timesOf (tablesOf log) rs group kind place
@@ -48,4 +48,4 @@ pub record Counted (log : List ℕ) (rs : List Record) (lent c : List ℕ) : Typ
 -- before the first opening they are as they were lent
 abbrev pub CountsHold : Course → (lent c : List ℕ) → Type 0
 CountsHold idle lent c = c ≡ lent
-CountsHold (during log rs) lent c = Counted log rs lent c
+CountsHold (during log rs) lent c = CellsHold log rs lent c

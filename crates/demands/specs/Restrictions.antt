@@ -12,11 +12,11 @@ use Rattle.rules.specs.Ladders.{rung, sanction}
 use Rattle.book.specs.Layout.{ladders}
 use Rattle.desk.specs.Offences.{groupAt}
 use Rattle.desk.specs.Findings.{memberOn}
-use Rattle.demands.specs.Days.{Ended, offenceOn, totalOver, foundOn}
+use Rattle.demands.specs.Days.{PastDay, offenceOn, totalOver, foundOn}
 
 -- ---- days on a book, the latest first
 -- the sanction of a day's finding on a ladder, after the days before it; 0 where there is none
-unfoldable pub sanctionOn : List ℕ → ℕ → Ended → List Ended → ℕ
+unfoldable pub sanctionOn : List ℕ → ℕ → PastDay → List PastDay → ℕ
 sanctionOn from ladder d before =
     let total = totalOver from (year (d .date)) ladder (d ∷ before) in
     pick (offenceOn ladder d) (sanction (d .tables .rulebook) (rung total) (memberOn (d .tables) (groupAt ladder))) 0
@@ -25,18 +25,18 @@ abbrev pub noOpening : ℕ → Bool
 noOpening s = eqb s 3 || eqb s 5
 
 -- how many of a year's findings on a ladder had a sanction that a test picks out
-unfoldable pub sanctions : (ℕ → Bool) → List ℕ → (y ladder : ℕ) → List Ended → ℕ
+unfoldable pub sanctions : (ℕ → Bool) → List ℕ → (y ladder : ℕ) → List PastDay → ℕ
 sanctions test from y ladder [] = 0
 sanctions test from y ladder (d ∷ before) =
     pick (eqb (year (d .date)) y && test (sanctionOn from ladder d before)) 1 0 + sanctions test from y ladder before
 
 -- "its number of opening restrictions (findings with sanction 3 or 5)" in a year
-abbrev pub restrictions : List ℕ → (y ladder : ℕ) → List Ended → ℕ
+abbrev pub restrictions : List ℕ → (y ladder : ℕ) → List PastDay → ℕ
 restrictions = sanctions noOpening
 
 -- the sanctions of a run's days are those in its findings: byte 3 of each
-pub data Sanctioned (from : List ℕ) : List Ended → Type 0 where
+pub data Sanctioned (from : List ℕ) : List PastDay → Type 0 where
   none : Sanctioned from []
-  more : {d : Ended} {days : List Ended}
+  more : {d : PastDay} {days : List PastDay}
       → ((l : ℕ) → l < ladders → getD (foundOn from d days l) 3 0 ≡ sanctionOn from l d days)
       → Sanctioned from days → Sanctioned from (d ∷ days)

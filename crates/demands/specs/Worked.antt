@@ -11,7 +11,7 @@ use Rattle.book.specs.Layout.{ladderOf}
 use Rattle.desk.specs.declared.end.Ended.the-variants.{Done, Refused}
 use Rattle.desk.specs.Cells.{cells}
 use Rattle.demands.specs.Samples.{bookWithOne}
-use Rattle.demands.specs.Calls.{Step, makeBook, openDay, takeRecord, endDay, abandonDay, askBook, lendFindings, Reply, made, moved, ended, told, lent, numberIn, Desk, Given, Ran, left, fullRoom}
+use Rattle.demands.specs.Calls.{Step, makeBook, openDay, takeRecord, endDay, abandonDay, askBook, lendFindings, Reply, made, moved, ended, told, lent, Desk, Given, numbers, Ran, left, fullRoom}
 use Rattle.demands.specs.Logs.{clerkDesk}
 use Rattle.demands.specs.Paper.{idle, during, Paper, numbersOn, paperAfter}
 
@@ -99,7 +99,7 @@ pub record Worked : Type 0 where
   pub given : List Given
   pub ran : Ran workedDesk workedSteps given
   -- none of which is a refusal
-  pub numbers : map (λ g. numberIn (g .reply)) given ≡ 0 ∷ 0 ∷ 0 ∷ 0 ∷ 0 ∷ 0 ∷ 0 ∷ []
+  pub numbered : numbers given ≡ 0 ∷ 0 ∷ 0 ∷ 0 ∷ 0 ∷ 0 ∷ 0 ∷ []
   -- "findings 1": the last tells of one
   pub count : map (λ g. foundIn (g .reply)) given ≡ 0 ∷ 0 ∷ 0 ∷ 0 ∷ 0 ∷ 0 ∷ 1 ∷ []
   -- it stands from the buffer's start, and "Bytes past them stay"

@@ -6,10 +6,10 @@ use Prim.Native.Nat.{ℕ, _+_}
 use lib.ListN.{replicate}
 use Rattle.book.specs.Layout.{ladderOf, totalAt}
 use Rattle.demands.specs.Days.{blank}
-use Rattle.demands.specs.Calls.{Step, takeRecord, Desk, Given, left}
+use Rattle.demands.specs.Calls.{Step, takeRecord, Desk, Given, numbers, left}
 use Rattle.demands.specs.Logs.{clerkDesk}
 use Rattle.demands.specs.Join.{joinLog}
-use Rattle.demands.specs.Demand3.{Run, numbers}
+use Rattle.demands.specs.Demand3.{Run, SameNumbers}
 use Rattle.demands.specs.Worked.{tablesFor, tradeOn, tradeRow, wholeDay}
 
 -- ---- the bytes
@@ -56,8 +56,8 @@ pub record WorkedYear : Type 0 where
   pub first-tables : joinLog 3 4 (yearTables 2 3) ≡ yearTables 2 4
   pub second-tables : joinLog 3 4 (yearTables 3 3) ≡ yearTables 3 4
   -- each call gets the number that it had: contract 102 is refused with 12, and no other call is refused
-  pub same-numbers : numbers given′ ≡ numbers given
-  pub numbers : numbers given ≡ 0 ∷ 0 ∷ 0 ∷ 0 ∷ 0 ∷ 12 ∷ 0 ∷ 0 ∷ 0 ∷ 0 ∷ 0 ∷ 0 ∷ 0 ∷ 0 ∷ 0 ∷ []
+  pub same-numbers : SameNumbers given given′
+  pub numbered : numbers given ≡ 0 ∷ 0 ∷ 0 ∷ 0 ∷ 0 ∷ 12 ∷ 0 ∷ 0 ∷ 0 ∷ 0 ∷ 0 ∷ 0 ∷ 0 ∷ 0 ∷ 0 ∷ []
   -- before: of group 3 the second day is an offence, and the first, with one self-trade, is not; group 4 has none
   pub before-3 : selfTotal (left yearDesk given .book) 3 ≡ 1
   pub before-4 : selfTotal (left yearDesk given .book) 4 ≡ 0

@@ -37,7 +37,7 @@ one-answer w (c ∷ cs) (g ∷ gs) (h ∷ hs) (next m r) (next n s) =
     let e : g ≡ h = one-given m n in
     ap₂ {C = List Given} (λ x xs. x ∷ xs) e (one-answer (h .after) cs gs hs (subst (λ (x : Given). Ran (x .after) cs gs) e r) s)
 
--- ---- its number is the one namedNumber
+-- ---- its number is the one that is named
 pub number-named : NumberNamed
 unfolding namedNumber abandonAnswer
 number-named w c g (fresh-gives {rulebook} m) = ap freshNumber (m .answer) ∙ fresh-number (w .book) rulebook

@@ -36,7 +36,7 @@ or-zero a = go (eqb a 0) refl
     go true e = or-else a 0 (eqb-true a 0 e) ∙ sym (eqb-true a 0 e)
     go false e = or-first a 0 (eqb-false a 0 e)
 
--- on a book that the opening accepted, and with that room, only the record itself can be refused
+-- on a book that the opening accepted, and with full room for findings, only the record itself can be refused
 pub end-plain : (log : List ℕ) (rs : List Record) (row book : List ℕ) (room : ℕ) → eqb (length row) 20 ≡ true
     → bookFault (headerOf log) book ≡ 0 → 49152 ≤ room → endRefusal log rs row book room ≡ rowFault (dayIn log rs) row
 unfolding endRefusal

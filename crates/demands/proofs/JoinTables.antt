@@ -20,7 +20,7 @@ use Rattle.daylog.specs.Entries.{entries}
 use Rattle.daylog.specs.Header.{headerOf, markGood, contractsPart, accountsPart, tablesFault, headFault, logFault}
 use Rattle.daylog.specs.Tables.{tablesIn, tablesOf}
 use Rattle.daylog.proofs.FaultLaws.{log-sound}
-use Rattle.demands.specs.Join.{joined, groupByte, byPlace, joinLog, Joined}
+use Rattle.demands.specs.Join.{joined, accountsTo, groupByte, byPlace, joinLog, Joined}
 
 -- ---- a change of every byte by its place
 by-length : (f : ℕ → ℕ → ℕ) (i : ℕ) (s : List ℕ) → length (byPlace f i s) ≡ length s
@@ -92,13 +92,13 @@ module _ (a b : ℕ) (log : List ℕ) (some : 1 ≤ a) where
   before : (i : ℕ) → i < 16 + 8 * headerOf log .contracts → getD (joinLog a b log) i 0 ≡ getD log i 0
   before i h =
       let from = 16 + 8 * headerOf log .contracts in
-      let to = from + 8 * headerOf log .accounts in
+      let to = accountsTo (headerOf log) in
       stays i (and-no (leb from i && ltb i to) _ (and-no (leb from i) (ltb i to) (lt-leb from i h)))
 
   pub past : (i : ℕ) → 16 + 8 * headerOf log .contracts + 8 * headerOf log .accounts ≤ i → getD (joinLog a b log) i 0 ≡ getD log i 0
   past i h =
       let from = 16 + 8 * headerOf log .contracts in
-      let to = from + 8 * headerOf log .accounts in
+      let to = accountsTo (headerOf log) in
       stays i (and-no (leb from i && ltb i to) _ (and-no-right (leb from i) (ltb i to) (le-ltb i to h)))
 
   pub header-stands : headerOf (joinLog a b log) ≡ headerOf log
@@ -122,7 +122,7 @@ module _ (a b : ℕ) (log : List ℕ) (some : 1 ≤ a) where
   other : (i : ℕ) → (i % 8 ≡ 4 → ⊥) → getD (accountsPart (headerOf log) (joinLog a b log)) i 0 ≡ getD (accountsPart (headerOf log) log) i 0
   other i n =
       let from = 16 + 8 * headerOf log .contracts in
-      let to = from + 8 * headerOf log .accounts in
+      let to = accountsTo (headerOf log) in
       let e : from + i - from ≡ i = omega arith in
       let t : eqb ((from + i - from) % 8) 4 ≡ false = rw e (ne-eqb (i % 8) 4 n) in
       getD-drop from (joinLog a b log) i 0
@@ -163,14 +163,14 @@ module _ (a b : ℕ) (log : List ℕ) (some : 1 ≤ a) where
             → getD (joinLog a b log) (16 + 8 * headerOf log .contracts + i) 0 ≡ joined a b (getD log (16 + 8 * headerOf log .contracts + i) 0)
         go true l =
             let from = 16 + 8 * headerOf log .contracts in
-            let to = from + 8 * headerOf log .accounts in
+            let to = accountsTo (headerOf log) in
             let e : from + i - from ≡ i = omega arith in
             let t : eqb ((from + i - from) % 8) 4 ≡ true = rw e (eq-eqb (i % 8) 4 h) in
             let u = and-yes (leb from (from + i)) (ltb (from + i) to) (le-leb from (from + i) (omega arith)) l in
             byte (from + i) ∙ sym (pick-yes _ _ _ _ (and-yes (leb from (from + i) && ltb (from + i) to) (eqb ((from + i - from) % 8) 4) u t) refl)
         go false l =
             let from = 16 + 8 * headerOf log .contracts in
-            let to = from + 8 * headerOf log .accounts in
+            let to = accountsTo (headerOf log) in
             let m : to ≤ from + i = ltb-false (from + i) to l in
             let z : getD log (from + i) 0 ≡ 0 = List·getD-eq-default log 0 (omega arith) in
             past (from + i) m ∙ z ∙ sym (ap (joined a b) z ∙ zero-stays)

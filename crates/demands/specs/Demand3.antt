@@ -60,8 +60,8 @@ pub record DayJoined (a b : ℕ) (from : List ℕ) (d d′ : PastDay) (before be
 
 pub data DaysJoined (a b : ℕ) (from : List ℕ) : List PastDay → List PastDay → Type 0 where
   none : DaysJoined a b from [] []
-  more : {d d′ : PastDay} {days days′ : List PastDay} → DayJoined a b from d d′ days days′ → DaysJoined a b from days days′
-      → DaysJoined a b from (d ∷ days) (d′ ∷ days′)
+  more : {d d′ : PastDay} {days days′ : List PastDay} → DayJoined a b from d d′ days days′
+      → DaysJoined a b from days days′ → DaysJoined a b from (d ∷ days) (d′ ∷ days′)
 
 -- ---- of the days and the books that they leave: totals at the end, and opening restrictions in each year
 -- group g had no more on a kind's ladder in a family than group b has after the join

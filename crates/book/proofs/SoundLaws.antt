@@ -1,4 +1,4 @@
--- What each return of `is_sound` rests on. Assumes nothing.
+-- What each return of `is_sound_as` rests on. Assumes nothing.
 use mathlib.Core.Path.{_≡_}
 use mathlib.Core.Bool.{Bool, true, false, _&&_}
 use mathlib.Core.List.{List}
@@ -6,21 +6,29 @@ use Prim.Native.Nat.{ℕ}
 use borrow.Author.Tests.{eq-eqb, ne-eqb}
 use lib.ListN.{length}
 use Rattle.calendar.specs.Dates.{dayNumber}
-use Rattle.book.specs.Layout.{rulebookOf, lastDate}
-use Rattle.book.specs.Sound.{headGood, totalsGood, sound}
+use Rattle.book.specs.declared.shape.Shape.{Shape}
+use Rattle.book.specs.Places.{bookSize}
+use Rattle.book.specs.Shape.{rulebookOf}
+use Rattle.book.specs.Layout.{lastDate}
+use Rattle.book.specs.Sound.{headGood, totalsGood, soundAs}
 
-pub wrong-length : (b : List ℕ) → (length b ≡ 12304 → ⊥) → false ≡ sound b
-unfolding sound
-wrong-length b n = rw (ne-eqb (length b) 12304 n)
+module _ (shape : Shape) (b : List ℕ) where
+  -- the test of the totals
+  abbrev all : Bool
+  all = totalsGood (shape .kinds) b (rulebookOf b) (dayNumber (lastDate b))
 
--- after the length, the head and the totals decide
-pub right-length : (b : List ℕ) → length b ≡ 12304 → headGood b && totalsGood b (rulebookOf b) (dayNumber (lastDate b)) ≡ sound b
-unfolding sound
-right-length b e = rw (eq-eqb (length b) 12304 e)
+  pub wrong-length : (length b ≡ bookSize (shape .kinds) → ⊥) → false ≡ soundAs shape b
+  unfolding soundAs
+  wrong-length n = rw (ne-eqb (length b) (bookSize (shape .kinds)) n)
 
-pub wrong-head : (b : List ℕ) → length b ≡ 12304 → headGood b ≡ false → false ≡ sound b
-wrong-head b l e = rw (← right-length b l, e)
+  -- after the length, the head and the totals decide
+  pub right-length : length b ≡ bookSize (shape .kinds) → headGood (shape .letter) b && all ≡ soundAs shape b
+  unfolding soundAs
+  right-length e = rw (eq-eqb (length b) (bookSize (shape .kinds)) e)
 
-pub right-head : (b : List ℕ) (r : Bool) → length b ≡ 12304 → headGood b ≡ true
-    → r ≡ totalsGood b (rulebookOf b) (dayNumber (lastDate b)) → r ≡ sound b
-right-head b r l e t = rw (← right-length b l, e) t
+  pub wrong-head : length b ≡ bookSize (shape .kinds) → headGood (shape .letter) b ≡ false → false ≡ soundAs shape b
+  wrong-head l e = rw (← right-length l, e)
+
+  pub right-head : (r : Bool) → length b ≡ bookSize (shape .kinds) → headGood (shape .letter) b ≡ true
+      → r ≡ all → r ≡ soundAs shape b
+  right-head r l e t = rw (← right-length l, e) t

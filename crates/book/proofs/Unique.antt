@@ -1,41 +1,104 @@
--- No second answer, and no second buffer, fits the contract of a public function. Assumes nothing.
+-- No second answer, and no second buffer, fits the contract of a public function: `Post` is what its own `ensures`
+-- says, `a` its arguments, `s` its buffers when it returns. Assumes nothing.
 use mathlib.Core.Path.{_≡_, sym, _∙_}
 use mathlib.Core.Bool.{Bool}
-use mathlib.Core.List.{List}
 use Prim.Native.Nat.{ℕ}
-use Rattle.wire.specs.Buffers.{putIn}
+use Rattle.wire.proofs.AnswerLaws.{one-outcome}
+use Rattle.book.specs.declared.shape.Shape.{Shape}
 use Rattle.book.specs.declared.ask.Asked.{Asked}
 use Rattle.book.specs.declared.fresh.NewBook.{NewBook}
-use Rattle.book.specs.Layout.{headOf, rulebookOf, lastDate}
-use Rattle.book.specs.Sound.{sound}
-use Rattle.book.specs.Fresh.{FreshGives}
-use Rattle.book.specs.Ask.{askAnswer}
-use Rattle.book.specs.Raise.{raised, raisedPart}
+use Rattle.book.proofs.sound.is_sound_as.Reads as is-sound-as
+use Rattle.book.proofs.sound.rulebook_of.Reads as rulebook-of
+use Rattle.book.proofs.sound.shape_of.Reads as shape-of
+use Rattle.book.proofs.sound.last_date.Reads as last-date
+use Rattle.book.proofs.head.put_head.Reads as put-head
+use Rattle.book.proofs.fresh.fresh_as.Reads as fresh-as
+use Rattle.book.proofs.ask.ask_as.Reads as ask-as
+use Rattle.book.proofs.fits.fits_fault.Reads as fits-fault
+use Rattle.book.proofs.raise.is_later_year.Reads as is-later-year
+use Rattle.book.proofs.raise.next_total.Reads as next-total
+use Rattle.book.proofs.raise.place_in.Reads as place-in
+use Rattle.book.proofs.raise.raise_group.Reads as raise-group
+use Rattle.book.proofs.shape.day_shape.Reads as day-shape
+use Rattle.book.proofs.places.ladders_in.Reads as ladders-in
+use Rattle.book.proofs.places.cells_in.Reads as cells-in
+use Rattle.book.proofs.places.book_size.Reads as book-size
+use Rattle.book.proofs.places.group_at.Reads as group-at
+use Rattle.book.proofs.places.kind_at.Reads as kind-at
+use Rattle.book.proofs.places.cell_of.Reads as cell-of
 
-pub is-sound-unique : (b : List ℕ) (r₁ r₂ : Bool) → r₁ ≡ sound b → r₂ ≡ sound b → r₁ ≡ r₂
-is-sound-unique b r₁ r₂ p q = p ∙ sym q
+pub is-sound-as-unique : (κs : _) (a : _) (r₁ r₂ : Bool) (s₁ s₂ : _)
+    → is-sound-as.Post κs a r₁ s₁ → is-sound-as.Post κs a r₂ s₂ → r₁ ≡ r₂
+is-sound-as-unique κs a r₁ r₂ s₁ s₂ p q = p ∙ sym q
 
-pub rulebook-of-unique : (b : List ℕ) (r₁ r₂ : ℕ) → r₁ ≡ rulebookOf b → r₂ ≡ rulebookOf b → r₁ ≡ r₂
-rulebook-of-unique b r₁ r₂ p q = p ∙ sym q
+pub rulebook-of-unique : (κs : _) (a : _) (r₁ r₂ : ℕ) (s₁ s₂ : _)
+    → rulebook-of.Post κs a r₁ s₁ → rulebook-of.Post κs a r₂ s₂ → r₁ ≡ r₂
+rulebook-of-unique κs a r₁ r₂ s₁ s₂ p q = p ∙ sym q
 
-pub last-date-unique : (b : List ℕ) (r₁ r₂ : ℕ) → r₁ ≡ lastDate b → r₂ ≡ lastDate b → r₁ ≡ r₂
-last-date-unique b r₁ r₂ p q = p ∙ sym q
+pub shape-of-unique : (κs : _) (a : _) (r₁ r₂ : Shape) (s₁ s₂ : _)
+    → shape-of.Post κs a r₁ s₁ → shape-of.Post κs a r₂ s₂ → r₁ ≡ r₂
+shape-of-unique κs a r₁ r₂ s₁ s₂ p q = p ∙ sym q
 
-pub put-head-unique : (b : List ℕ) (rulebook date : ℕ) (b₁ b₂ : List ℕ) → b₁ ≡ putIn b 0 (headOf rulebook date)
-    → b₂ ≡ putIn b 0 (headOf rulebook date) → b₁ ≡ b₂
-put-head-unique b rulebook date b₁ b₂ p q = p ∙ sym q
+pub last-date-unique : (κs : _) (a : _) (r₁ r₂ : ℕ) (s₁ s₂ : _)
+    → last-date.Post κs a r₁ s₁ → last-date.Post κs a r₂ s₂ → r₁ ≡ r₂
+last-date-unique κs a r₁ r₂ s₁ s₂ p q = p ∙ sym q
 
-pub fresh-unique : (b : List ℕ) (rulebook : ℕ) (r₁ r₂ : NewBook) (b₁ b₂ : List ℕ) → FreshGives b rulebook r₁ b₁
-    → FreshGives b rulebook r₂ b₂ → (r₁ ≡ r₂) × (b₁ ≡ b₂)
-fresh-unique b rulebook r₁ r₂ b₁ b₂ p q = (p .answer ∙ sym (q .answer), p .book ∙ sym (q .book))
+pub put-head-unique : (κs : _) (a : _) (r₁ r₂ : _) (s₁ s₂ : _)
+    → put-head.Post κs a r₁ s₁ → put-head.Post κs a r₂ s₂ → s₁ .0 .now ≡ s₂ .0 .now
+put-head-unique κs a r₁ r₂ s₁ s₂ p q = p ∙ sym q
 
-pub ask-unique : (b : List ℕ) (group kind family : ℕ) (r₁ r₂ : Asked) → r₁ ≡ askAnswer b group kind family
-    → r₂ ≡ askAnswer b group kind family → r₁ ≡ r₂
-ask-unique b group kind family r₁ r₂ p q = p ∙ sym q
+pub fresh-as-unique : (κs : _) (a : _) (r₁ r₂ : NewBook) (s₁ s₂ : _)
+    → fresh-as.Post κs a r₁ s₁ → fresh-as.Post κs a r₂ s₂ → (r₁ ≡ r₂) × (s₁ .1 .0 .now ≡ s₂ .1 .0 .now)
+fresh-as-unique κs a r₁ r₂ s₁ s₂ p q = one-outcome p q
 
-pub raise-group-unique : (part : List ℕ) (later : Bool) (places : List ℕ) (contracts : ℕ) (part₁ part₂ : List ℕ)
-    → part₁ ≡ raisedPart part later places contracts → part₂ ≡ raisedPart part later places contracts → part₁ ≡ part₂
-raise-group-unique part later places contracts part₁ part₂ p q = p ∙ sym q
+pub ask-as-unique : (κs : _) (a : _) (r₁ r₂ : Asked) (s₁ s₂ : _)
+    → ask-as.Post κs a r₁ s₁ → ask-as.Post κs a r₂ s₂ → r₁ ≡ r₂
+ask-as-unique κs a r₁ r₂ s₁ s₂ p q = p ∙ sym q
 
-pub raise-total-unique : (later hit : Bool) (total : ℕ) (r₁ r₂ : ℕ) → r₁ ≡ raised later hit total → r₂ ≡ raised later hit total → r₁ ≡ r₂
-raise-total-unique later hit total r₁ r₂ p q = p ∙ sym q
+pub fits-fault-unique : (κs : _) (a : _) (r₁ r₂ : ℕ) (s₁ s₂ : _)
+    → fits-fault.Post κs a r₁ s₁ → fits-fault.Post κs a r₂ s₂ → r₁ ≡ r₂
+fits-fault-unique κs a r₁ r₂ s₁ s₂ p q = p ∙ sym q
+
+pub is-later-year-unique : (κs : _) (a : _) (r₁ r₂ : Bool) (s₁ s₂ : _)
+    → is-later-year.Post κs a r₁ s₁ → is-later-year.Post κs a r₂ s₂ → r₁ ≡ r₂
+is-later-year-unique κs a r₁ r₂ s₁ s₂ p q = p ∙ sym q
+
+pub next-total-unique : (κs : _) (a : _) (r₁ r₂ : ℕ) (s₁ s₂ : _)
+    → next-total.Post κs a r₁ s₁ → next-total.Post κs a r₂ s₂ → r₁ ≡ r₂
+next-total-unique κs a r₁ r₂ s₁ s₂ p q = p ∙ sym q
+
+pub place-in-unique : (κs : _) (a : _) (r₁ r₂ : ℕ) (s₁ s₂ : _)
+    → place-in.Post κs a r₁ s₁ → place-in.Post κs a r₂ s₂ → r₁ ≡ r₂
+place-in-unique κs a r₁ r₂ s₁ s₂ p q = p ∙ sym q
+
+pub raise-group-unique : (κs : _) (a : _) (r₁ r₂ : _) (s₁ s₂ : _)
+    → raise-group.Post κs a r₁ s₁ → raise-group.Post κs a r₂ s₂ → s₁ .0 .now ≡ s₂ .0 .now
+raise-group-unique κs a r₁ r₂ s₁ s₂ p q = p ∙ sym q
+
+pub day-shape-unique : (κs : _) (a : _) (r₁ r₂ : Shape) (s₁ s₂ : _)
+    → day-shape.Post κs a r₁ s₁ → day-shape.Post κs a r₂ s₂ → r₁ ≡ r₂
+day-shape-unique κs a r₁ r₂ s₁ s₂ p q = p ∙ sym q
+
+pub ladders-in-unique : (κs : _) (a : _) (r₁ r₂ : ℕ) (s₁ s₂ : _)
+    → ladders-in.Post κs a r₁ s₁ → ladders-in.Post κs a r₂ s₂ → r₁ ≡ r₂
+ladders-in-unique κs a r₁ r₂ s₁ s₂ p q = p ∙ sym q
+
+pub cells-in-unique : (κs : _) (a : _) (r₁ r₂ : ℕ) (s₁ s₂ : _)
+    → cells-in.Post κs a r₁ s₁ → cells-in.Post κs a r₂ s₂ → r₁ ≡ r₂
+cells-in-unique κs a r₁ r₂ s₁ s₂ p q = p ∙ sym q
+
+pub book-size-unique : (κs : _) (a : _) (r₁ r₂ : ℕ) (s₁ s₂ : _)
+    → book-size.Post κs a r₁ s₁ → book-size.Post κs a r₂ s₂ → r₁ ≡ r₂
+book-size-unique κs a r₁ r₂ s₁ s₂ p q = p ∙ sym q
+
+pub group-at-unique : (κs : _) (a : _) (r₁ r₂ : ℕ) (s₁ s₂ : _)
+    → group-at.Post κs a r₁ s₁ → group-at.Post κs a r₂ s₂ → r₁ ≡ r₂
+group-at-unique κs a r₁ r₂ s₁ s₂ p q = p ∙ sym q
+
+pub kind-at-unique : (κs : _) (a : _) (r₁ r₂ : ℕ) (s₁ s₂ : _)
+    → kind-at.Post κs a r₁ s₁ → kind-at.Post κs a r₂ s₂ → r₁ ≡ r₂
+kind-at-unique κs a r₁ r₂ s₁ s₂ p q = p ∙ sym q
+
+pub cell-of-unique : (κs : _) (a : _) (r₁ r₂ : ℕ) (s₁ s₂ : _)
+    → cell-of.Post κs a r₁ s₁ → cell-of.Post κs a r₂ s₂ → r₁ ≡ r₂
+cell-of-unique κs a r₁ r₂ s₁ s₂ p q = p ∙ sym q

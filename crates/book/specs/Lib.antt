@@ -1,5 +1,8 @@
+pub mod Places
+pub mod Shape
 pub mod Layout
 pub mod Sound
+pub mod Fits
 pub mod Fresh
 pub mod Ask
 pub mod Raise

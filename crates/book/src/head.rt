@@ -7,16 +7,16 @@ ghost use lib.ListN.{length};
 ghost use Rattle.wire.specs.Buffers.{put, putIn};
 ghost use Rattle.book.specs.Layout.{headOf};
 
-// "AXB": compared on checking and written for a fresh book.
-pub(crate) const MARK: [u8; 3] = [0x41, 0x58, 0x42];
+// "AX", before the shape's letter: compared on checking and written for a fresh book.
+pub(crate) const MARK: [u8; 2] = [0x41, 0x58];
 
-fn store_head(b: &mut [u8], rulebook: u8, date: u32)
+fn store_head(b: &mut [u8], letter: u8, rulebook: u8, date: u32)
     requires { ⌜ 16 ≤ length (now b) ⌝ }
-    ensures { λ _. ⌜ now (b .exit) ≡ put (now (b .entry)) 0 (headOf rulebook date) ⌝ }
+    ensures { λ _. ⌜ now (b .exit) ≡ put (now (b .entry)) 0 (headOf letter rulebook date) ⌝ }
 {
     b[0] = MARK[0];
     b[1] = MARK[1];
-    b[2] = MARK[2];
+    b[2] = letter;
     b[3] = rulebook;
     put16(b, 4, 1);
     put32(b, 6, date);
@@ -24,12 +24,12 @@ fn store_head(b: &mut [u8], rulebook: u8, date: u32)
     put32(b, 12, 0);
 }
 
-// Writes a book's head for a rulebook and a last date, where there is room for it.
-pub fn put_head(b: &mut [u8], rulebook: u8, date: u32)
-    ensures { λ _. ⌜ now (b .exit) ≡ putIn (now (b .entry)) 0 (headOf rulebook date) ⌝ }
+// Writes a book's head for its mark's letter, a rulebook and a last date, where there is room for it.
+pub fn put_head(b: &mut [u8], letter: u8, rulebook: u8, date: u32)
+    ensures { λ _. ⌜ now (b .exit) ≡ putIn (now (b .entry)) 0 (headOf letter rulebook date) ⌝ }
 {
     if b.len() < 16 {
         return;
     }
-    store_head(b, rulebook, date);
+    store_head(b, letter, rulebook, date);
 }

@@ -1,6 +1,9 @@
-// The yearly book, as 12,304 bytes that the caller lends.
+// The yearly book of any shape, as bytes that the caller lends; and where ladders stand in it.
 pub mod ask;
+pub mod fits;
 pub mod fresh;
 pub mod head;
+pub mod places;
 pub mod raise;
+pub mod shape;
 pub mod sound;

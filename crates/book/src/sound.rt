@@ -1,26 +1,32 @@
 // Whether a book is sound.
 use crate::head::MARK;
+use crate::places::book_size;
+use crate::places::ladders_in;
+use crate::shape::Shape;
+use crate::shape::day_shape;
+use rules::kinds::Kinds;
+use rules::text::is_rulebook;
 use wire::read::get8;
 use wire::read::get16;
 use wire::read::get32;
 ghost use mathlib.Core.Path.{_≡_};
-ghost use Rattle.book.specs.Sound.{markGood, headGood, mostOf, totalsGood, sound};
-ghost use Rattle.book.specs.Layout.{rulebookOf, lastDate};
+ghost use Rattle.book.specs.Shape.{rulebookOf, shapeOf};
+ghost use Rattle.book.specs.Sound.{markGood, headGood, mostOf, totalsGood, soundAs};
+ghost use Rattle.book.specs.Layout.{lastDate};
 
-fn mark_good(b: &[u8]) -> bool
-    ensures { λ r. ⌜ r ≡ markGood (now (b .entry)) ⌝ }
+fn mark_good(letter: u8, b: &[u8]) -> bool
+    ensures { λ r. ⌜ r ≡ markGood letter (now (b .entry)) ⌝ }
 {
-    (get8(b, 0) == MARK[0]) & (get8(b, 1) == MARK[1]) & (get8(b, 2) == MARK[2])
+    (get8(b, 0) == MARK[0]) & (get8(b, 1) == MARK[1]) & (get8(b, 2) == letter)
 }
 
 // Mark, rulebook, version, the zero bytes, and a last date that is 0 or a real day.
-fn head_good(b: &[u8]) -> bool
-    ensures { λ r. ⌜ r ≡ headGood (now (b .entry)) ⌝ }
+fn head_good(letter: u8, b: &[u8]) -> bool
+    ensures { λ r. ⌜ r ≡ headGood letter (now (b .entry)) ⌝ }
 {
-    let rulebook = get8(b, 3);
     let date = get32(b, 6);
-    mark_good(b)
-        & ((1 <= rulebook) & (rulebook <= 2))
+    mark_good(letter, b)
+        & is_rulebook(get8(b, 3) as u64)
         & (get16(b, 4) == 1)
         & (get16(b, 10) == 0)
         & (get32(b, 12) == 0)
@@ -38,26 +44,28 @@ fn most_of(rulebook: u8, day: u32, ladder: usize) -> u32
 }
 
 // No total stands above the most that it may be.
-fn totals_good(b: &[u8], rulebook: u8, day: u32) -> bool
-    ensures { λ r. ⌜ r ≡ totalsGood (now (b .entry)) rulebook day ⌝ }
+fn totals_good(kinds: Kinds, b: &[u8], rulebook: u8, day: u32) -> bool
+    ensures { λ r. ⌜ r ≡ totalsGood kinds (now (b .entry)) rulebook day ⌝ }
 {
     let mut good = true;
-    for l in 0..6144 {
+    for l in 0..ladders_in(kinds) {
         good = good & ((get16(b, 16 + 2 * l) as u32) <= most_of(rulebook, day, l));
     }
     good
 }
 
-pub fn is_sound(b: &[u8]) -> bool
-    ensures { λ r. ⌜ r ≡ sound (now (b .entry)) ⌝ }
+// Whether it is a sound book of a shape.
+pub fn is_sound_as(shape: Shape, b: &[u8]) -> bool
+    ensures { λ r. ⌜ r ≡ soundAs shape (now (b .entry)) ⌝ }
 {
-    if b.len() != 12304 {
+    let kinds = shape.kinds;
+    if b.len() != book_size(kinds) {
         return false;
     }
-    if !head_good(b) {
+    if !head_good(shape.letter, b) {
         return false;
     }
-    totals_good(b, get8(b, 3), calendar::day_number(get32(b, 6)))
+    totals_good(kinds, b, get8(b, 3), calendar::day_number(get32(b, 6)))
 }
 
 // The rulebook that a book names.
@@ -65,6 +73,13 @@ pub fn rulebook_of(b: &[u8]) -> u8
     ensures { λ r. ⌜ r ≡ rulebookOf (now (b .entry)) ⌝ }
 {
     get8(b, 3)
+}
+
+// The shape that a book of offences has by the rulebook that it names.
+pub fn shape_of(b: &[u8]) -> Shape
+    ensures { λ r. ⌜ r ≡ shapeOf (now (b .entry)) ⌝ }
+{
+    day_shape(rulebook_of(b) as u64)
 }
 
 // The date of the last day in a book, 0 when none.

@@ -104,7 +104,7 @@ pub(crate) fn end_record(taken: u32) -> [u8; 20]
 
 // A book of rulebook 1 with a last date, in which group 3 has a total for kind 1 family 0.
 pub(crate) fn past(book: &mut [u8; 12304], date: u32, total: u16) {
-    book::fresh::fresh(book, 1);
+    desk::books::fresh(book, 1);
     put32(book, 6, date);
     put16(book, 16 + 2 * (2 * 3 * 16), total);
 }

@@ -12,7 +12,7 @@ pub(crate) fn tested() {
 }
 
 fn open_on(name: &[u8], date: u32, book: &mut [u8; 12304], counts: &mut [u32; 12288]) {
-    book::fresh::fresh(book, 1);
+    desk::books::fresh(book, 1);
     let log = small_log(date, 11);
     let run = opened(&log, book, counts);
     say::fault(name, run.fault);

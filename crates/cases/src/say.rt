@@ -40,7 +40,7 @@ pub(crate) fn fault(name: &[u8], answer: u32) {
 
 // The total of group 3 for a kind and family, as the book answers.
 pub(crate) fn total(name: &[u8], book: &[u8], kind: u64, family: u64) {
-    match book::ask::ask(book, 3, kind, family) {
+    match desk::books::ask(book, 3, kind, family) {
         Asked::Total(n, _) => {
             number(name, n as u64);
         }

@@ -20,7 +20,7 @@ fn cancels(
     counts: &mut [u32; 12288],
     findings: &mut [u8; 49152],
 ) {
-    book::fresh::fresh(book, rulebook as u64);
+    desk::books::fresh(book, rulebook as u64);
     let t = log(rulebook, 1, largest);
     let row = cancel(101, lots, 1);
     let run = taken(opened(&t, book, counts), &t, &row, counts, times);
@@ -60,7 +60,7 @@ fn wide(x: u32) -> u64 {
 
 // The count of group 3, kind 2, at the first contract is number 224.
 pub(crate) fn wide_count(book: &mut [u8; 12304], counts: &mut [u32; 12288]) {
-    book::fresh::fresh(book, 1);
+    desk::books::fresh(book, 1);
     let t = log(1, 1, 1000);
     let row = cancel(101, 1, 1);
     let run = taken(opened(&t, book, counts), &t, &row, counts, 256);
@@ -74,7 +74,7 @@ pub(crate) fn on_two_contracts(
     counts: &mut [u32; 12288],
     findings: &mut [u8; 49152],
 ) {
-    book::fresh::fresh(book, 1);
+    desk::books::fresh(book, 1);
     let t = log(1, 1, 1000);
     let first = cancel(101, 1, 1);
     let second = cancel(102, 1, 1);
@@ -152,7 +152,7 @@ fn spared(
     counts: &mut [u32; 12288],
     findings: &mut [u8; 49152],
 ) {
-    book::fresh::fresh(book, rulebook as u64);
+    desk::books::fresh(book, rulebook as u64);
     let t = log(rulebook, 1, largest);
     let row = cancel(101, lots, purpose);
     let run = taken(opened(&t, book, counts), &t, &row, counts, 500);

@@ -13,7 +13,7 @@ fn trade_between(name: &[u8], buyer: u32, seller: u32, book: &[u8], counts: &mut
 }
 
 pub(crate) fn account(book: &mut [u8; 12304], counts: &mut [u32; 12288]) {
-    book::fresh::fresh(book, 1);
+    desk::books::fresh(book, 1);
     let t = small_log(20240305, 0);
     let run = opened(&t, book, counts);
     say::fault(b"account 0 in the table", run.fault);

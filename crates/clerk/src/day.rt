@@ -1,6 +1,7 @@
 // One day of the desk, from standard input: opened, its records taken, ended.
 use crate::input::Got;
 use crate::input::fill_from_input;
+use book::places::MOST_CELLS;
 use desk::end::Ended;
 use desk::state::Answer;
 use desk::state::State;
@@ -131,7 +132,7 @@ fn take_all(
 
 // Opening comes before the records, so a bad book wins over a log that is cut off further on.
 pub(crate) fn judge_day(log: &[u8], book: &mut [u8], findings: &mut [u8]) -> Outcome {
-    let mut counts = [0u32; 12288];
+    let mut counts = [0u32; MOST_CELLS];
     match desk::open::open(State::Closed, log, book, &mut counts) {
         Answer::Done(state) => take_all(state, log, book, &mut counts, findings),
         Answer::Refused(number) => Outcome::Refused(number),

@@ -5,6 +5,8 @@ mod input;
 mod keep;
 mod print;
 
+use book::places::MOST_BOOK;
+use book::places::MOST_FINDINGS;
 use day::Outcome;
 
 // The findings go out before the book is replaced: where they cannot be printed, the day may be run again.
@@ -23,15 +25,18 @@ fn refuse(number: u32) {
 }
 
 fn run(log: &[u8], book: &mut [u8]) {
-    let mut findings = [0u8; 49152];
+    let mut findings = [0u8; MOST_FINDINGS];
     match day::judge_day(log, book, &mut findings) {
         Outcome::Refused(number) => refuse(number),
         Outcome::Ended(found) => finish(log, book, &findings, found),
     }
 }
 
+// A byte more than the longest book: a file that is longer is no book.
+const FILE: usize = MOST_BOOK + 1;
+
 fn main() {
-    let mut book = [0u8; 12305];
+    let mut book = [0u8; FILE];
     let size = keep::read_book(&mut book);
     let mut log = [0u8; 4368];
     let end = input::read_tables(&mut log);

@@ -7,8 +7,9 @@ use native.Mathlib.Omega.{arith}
 use lib.ListN.{getD}
 use Rattle.wire.specs.Bytes.{le}
 use Rattle.wire.proofs.ByteLaws.{le-two, le-four}
-use Rattle.daylog.specs.Accounts.{accountFrom, accountAt, numberBefore}
-use Rattle.daylog.specs.Contracts.{contractFrom, contractAt, idBefore, contractPlace, foundContract}
+use Rattle.daylog.specs.Accounts.{accountAt, numberBefore}
+use Rattle.daylog.specs.Contracts.{contractAt, idBefore, contractPlace, foundContract}
+use Rattle.daylog.specs.Way.{accountFrom, contractFrom}
 use Rattle.daylog.specs.declared.contracts.Contract.{Contract}
 use Rattle.daylog.specs.declared.contracts.Found.the-variants.{At, Nothing}
 use Rattle.daylog.specs.Entries.{entries}
@@ -61,16 +62,19 @@ id-before s k = rw add-one
 
 -- the search for a contract, from what its loop has passed
 module _ (s : List ℕ) (id : ℕ) where
-  pub found-at : (k : ℕ) (e : Contract) → k < entries s → ((j : ℕ) → j < k → eqb (contractAt s j .id) id ≡ false) → e ≡ contractAt s k → e .id ≡ id
-      → At k e ≡ foundContract s id
+  abbrev place : ℕ
+  place = contractPlace (contractAt s) (entries s) id
+
+  pub found-at : (k : ℕ) (e : Contract) → k < entries s → ((j : ℕ) → j < k → eqb (contractAt s j .id) id ≡ false)
+      → e ≡ contractAt s k → e .id ≡ id → At k e ≡ foundContract s id
   unfolding foundContract contractPlace
   found-at k e h none is this =
-      let p : contractPlace s id ≡ k =
+      let p : place ≡ k =
       first-at (λ j. eqb (contractAt s j .id) id) k (entries s) h none (eq-eqb _ _ (ap (λ x. x .id) (sym is) ∙ this)) in
-      pick-yes _ _ _ _ (lt-ltb (contractPlace s id) (entries s) (rw p h)) (ap₂ At (sym p) (is ∙ ap (contractAt s) (sym p)))
+      pick-yes _ _ _ _ (lt-ltb place (entries s) (rw p h)) (ap₂ At (sym p) (is ∙ ap (contractAt s) (sym p)))
 
   pub found-nothing : ((j : ℕ) → j < entries s → eqb (contractAt s j .id) id ≡ false) → Nothing ≡ foundContract s id
   unfolding foundContract contractPlace
   found-nothing none =
-      let p : contractPlace s id ≡ entries s = first-none (λ j. eqb (contractAt s j .id) id) (entries s) none in
-      pick-no _ _ _ _ (le-ltb (contractPlace s id) (entries s) (rw p (omega arith))) refl
+      let p : place ≡ entries s = first-none (λ j. eqb (contractAt s j .id) id) (entries s) none in
+      pick-no _ _ _ _ (le-ltb place (entries s) (rw p (omega arith))) refl

@@ -7,11 +7,11 @@ use borrow.Author.Tests.{ltb-false, eqb-true, not-false}
 use lib.Dec.{lit<, eqb}
 use Rattle.wire.specs.Choice.{within}
 use Rattle.wire.proofs.ChoiceLaws.{pick-zero, and-left, and-right, bounds}
-use Rattle.daylog.specs.Sound.{Sound}
-use Rattle.daylog.specs.Header.{headerOf, sizesGood, tablesFault, headFault, logFault}
+use Rattle.daylog.specs.GoodLog.{GoodLog}
+use Rattle.daylog.specs.Header.{headerOf, sizesGood, entriesFault, headFault, logFault}
 
-pub log-sound : (log : List ℕ) → logFault log ≡ 0 → Sound (headerOf log) log
-unfolding logFault headFault tablesFault
+pub log-sound : (log : List ℕ) → logFault log ≡ 0 → GoodLog (headerOf log) log
+unfolding logFault headFault entriesFault
 log-sound log e =
     let h = headerOf log in
     let e1 = pick-zero _ 1 _ (lit< tt) e in
@@ -30,7 +30,7 @@ log-sound log e =
     let c = bounds 1 32 (h .contracts) (and-left cs acs both) in
     let a = bounds 1 512 (h .accounts) (and-right cs acs both) in record {
       version = eqb-true _ _ (not-false _ (e3 .0));
-      known = e4 .0;
+      known = not-false _ (e4 .0);
       date = not-false _ (e5 .0);
       some-contracts = c .0;
       most-contracts = c .1;

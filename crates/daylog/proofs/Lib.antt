@@ -1,4 +1,5 @@
 pub mod EntryLaws
 pub mod FaultLaws
 pub mod Search
+pub mod ChangedLaws
 pub mod Unique

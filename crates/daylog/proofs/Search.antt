@@ -1,4 +1,4 @@
--- Laws of the search by halving: its turns, where it ends, and that on a sound table it finds the account. Assumes nothing.
+-- Laws of the search by halving: its turns, its end, and that it finds the account in a good table. Assumes nothing.
 use mathlib.Core.Path.{_≡_, refl, sym, ap, _∙_}
 use mathlib.Core.Logic.{⊎-elim}
 use mathlib.Core.Bool.{Bool, true, false, not, _&&_}
@@ -15,7 +15,9 @@ use Rattle.wire.proofs.ChoiceLaws.{pick-yes, pick-no, pick-le, and-left}
 use Rattle.wire.proofs.PlaceLaws.{every-at, first-at, first-passes}
 use Rattle.daylog.specs.declared.accounts.Account.{Account}
 use Rattle.daylog.specs.Entries.{entries}
-use Rattle.daylog.specs.Accounts.{accountAt, numberBefore, accountGood, accountGoodAt, accountsGood, accountPlace, halve, halved, foundAccount}
+use Rattle.daylog.specs.Accounts.{accountAt, numberBefore, accountGood, accountGoodAt, accountsGood}
+use Rattle.daylog.specs.Accounts.{accountPlace, accountEntry}
+use Rattle.daylog.specs.Way.{halve, halved, foundAccount}
 
 by-order : {C : Type 0} (a b : ℕ) → (a ≤ b → C) → (b < a → C) → C
 by-order {C} a b f g = go (leb a b) refl
@@ -28,6 +30,10 @@ not-both : (a b : Bool) → (a ≡ true → b ≡ true → ⊥) → a && b ≡ f
 not-both true true f = absurd (f refl refl)
 not-both true false f = refl
 not-both false b f = refl
+
+-- the place of number x in a table
+abbrev pub place : List ℕ → ℕ → ℕ
+place s x = accountPlace (accountAt s) (entries s) x
 
 -- ---- the turns of the search for number x
 module _ (s : List ℕ) (x : ℕ) where
@@ -97,7 +103,7 @@ module _ (s : List ℕ) (x : ℕ) where
   unfolding foundAccount
   found-not no-hit = pick-no _ _ _ _ (not-both (ltb (halved s x) (entries s)) _ (λ p q. no-hit (ltb-true _ _ p) (eqb-true _ _ q))) refl
 
-  placed : accountPlace s x < entries s → accountAt s (accountPlace s x) .number ≡ x
+  placed : place s x < entries s → accountAt s (place s x) .number ≡ x
   unfolding accountPlace
   placed l = eqb-true _ _ (first-passes (λ k. eqb (accountAt s k .number) x) (entries s) l)
 
@@ -123,7 +129,7 @@ module _ (s : List ℕ) (good : accountsGood s ≡ true) where
 
   -- what halving and the first place give for the number at place k
   module _ (x k : ℕ) (here : k < entries s) (is : accountAt s k .number ≡ x) where
-    pub place-rising : accountPlace s x ≡ k
+    pub place-rising : place s x ≡ k
     unfolding accountPlace
     place-rising =
         first-at (λ j. eqb (accountAt s j .number) x) k (entries s) here
@@ -163,30 +169,37 @@ module _ (s : List ℕ) (good : accountsGood s ≡ true) where
     halved-rising = finds (entries s) 0 (entries s) (omega arith) (omega arith) (omega arith) (omega arith)
 
   module _ (x : ℕ) where
-    there : accountPlace s x < entries s → foundAccount s x ≡ take 8 (drop (8 * accountPlace s x) s)
+    there : place s x < entries s → foundAccount s x ≡ take 8 (drop (8 * place s x) s)
     there l =
         let is = placed s x l in
-        sym (found-here s x (accountPlace s x) (sym (halved-rising x (accountPlace s x) l is)) (omega arith) is)
+        sym (found-here s x (place s x) (sym (halved-rising x (place s x) l is)) (omega arith) is)
 
-    away : entries s ≤ accountPlace s x → foundAccount s x ≡ []
+    away : entries s ≤ place s x → foundAccount s x ≡ []
     away l = sym (found-not s x (λ h e. omega (arith, place-rising x (halved s x) h e)))
 
-    -- the account's entry where the account is there
-    pub found-rising : foundAccount s x ≡ pick (ltb (accountPlace s x) (entries s)) (take 8 (drop (8 * accountPlace s x) s)) []
+    -- what halving comes to is the account's entry
+    pub found-rising : foundAccount s x ≡ accountEntry s x
+    unfolding accountEntry
     found-rising =
-        by-order (suc (accountPlace s x)) (entries s) (λ l. pick-yes _ _ _ _ (lt-ltb _ _ l) (there l))
-        (λ l. let h : entries s ≤ accountPlace s x = omega arith in pick-no _ _ _ _ (le-ltb _ _ h) (away h))
+        by-order (suc (place s x)) (entries s) (λ l. pick-yes _ _ _ _ (lt-ltb _ _ l) (there l))
+        (λ l. let h : entries s ≤ place s x = omega arith in pick-no _ _ _ _ (le-ltb _ _ h) (away h))
 
-    pub found-length : eqb (length (foundAccount s x)) 0 ≡ not (ltb (accountPlace s x) (entries s))
+    pub found-length : eqb (length (foundAccount s x)) 0 ≡ not (ltb (place s x) (entries s))
     found-length =
-        by-order (suc (accountPlace s x)) (entries s)
+        by-order (suc (place s x)) (entries s)
         (λ l.
         let e : length (foundAccount s x) ≡ 8 =
-        ap length (there l) ∙ length-take-le 8 (drop (8 * accountPlace s x) s) (rw length-drop (omega arith)) in
+        ap length (there l) ∙ length-take-le 8 (drop (8 * place s x) s) (rw length-drop (omega arith)) in
         rw (e, lt-ltb _ _ l))
-        (λ l. let h : entries s ≤ accountPlace s x = omega arith in rw (away h, le-ltb _ _ h))
+        (λ l. let h : entries s ≤ place s x = omega arith in rw (away h, le-ltb _ _ h))
 
-    pub found-group : accountPlace s x < entries s → getD (foundAccount s x) 4 0 ≡ accountAt s (accountPlace s x) .group
+    pub found-group : place s x < entries s → getD (foundAccount s x) 4 0 ≡ accountAt s (place s x) .group
     unfolding accountAt
     found-group l =
-        ap (λ (f : List ℕ). getD f 4 0) (there l) ∙ getD-take 8 (drop (8 * accountPlace s x) s) 4 0 (omega arith) ∙ getD-drop (8 * accountPlace s x) s 4 0
+        ap (λ (f : List ℕ). getD f 4 0) (there l) ∙ getD-take 8 (drop (8 * place s x) s) 4 0 (omega arith)
+        ∙ getD-drop (8 * place s x) s 4 0
+
+-- what is known of a part that is what halving comes to
+pub found-both : (s : List ℕ) (x : ℕ) (part : List ℕ) → part ≡ foundAccount s x
+    → (part ≡ foundAccount s x) × (accountsGood s ≡ true → part ≡ accountEntry s x)
+found-both s x part e = (e, λ good. e ∙ found-rising s good x)

@@ -1,44 +1,81 @@
--- No second answer fits the contract of a public function. Assumes nothing.
+-- No second answer fits the contract of a public function: `Post` is what its own `ensures` says, `a` its arguments.
+-- Assumes nothing.
 use mathlib.Core.Path.{_≡_, sym, _∙_}
 use mathlib.Core.Bool.{Bool}
-use mathlib.Core.List.{List}
 use Prim.Native.Nat.{ℕ}
+use Rattle.rules.specs.declared.text.Text.{Text}
 use Rattle.daylog.specs.declared.contracts.Contract.{Contract}
 use Rattle.daylog.specs.declared.contracts.Found.{Found}
 use Rattle.daylog.specs.declared.header.Header.{Header}
 use Rattle.daylog.specs.declared.record.Record.{Record}
-use Rattle.daylog.specs.Accounts.{accountsGood, hasMember, foundAccount}
-use Rattle.daylog.specs.Contracts.{contractsGood, contractIn, foundContract}
-use Rattle.daylog.specs.Header.{headerOf, logFault}
-use Rattle.daylog.specs.Records.{recordOf, recordGood}
+use Rattle.daylog.proofs.accounts.accounts_good.Reads as accounts-good
+use Rattle.daylog.proofs.accounts.has_member.Reads as has-member
+use Rattle.daylog.proofs.accounts.find_account.Reads as find-account
+use Rattle.daylog.proofs.changed.tables_changed.Reads as tables-changed
+use Rattle.daylog.proofs.contracts.contracts_good.Reads as contracts-good
+use Rattle.daylog.proofs.contracts.contract_at.Reads as contract-at
+use Rattle.daylog.proofs.contracts.find_contract.Reads as find-contract
+use Rattle.daylog.proofs.header.header_of.Reads as header-of
+use Rattle.daylog.proofs.header.text_of.Reads as text-of
+use Rattle.daylog.proofs.header.log_fault.Reads as log-fault
+use Rattle.daylog.proofs.record.record_length.Reads as record-length
+use Rattle.daylog.proofs.record.record_of.Reads as record-of
+use Rattle.daylog.proofs.record.record_good.Reads as record-good
+use Rattle.daylog.proofs.record.end_good.Reads as end-good
 
-pub accounts-good-unique : (part : List ℕ) (r₁ r₂ : Bool) → r₁ ≡ accountsGood part → r₂ ≡ accountsGood part → r₁ ≡ r₂
-accounts-good-unique part r₁ r₂ p q = p ∙ sym q
+pub accounts-good-unique : (κs : _) (a : _) (r₁ r₂ : Bool) (s₁ s₂ : _)
+    → accounts-good.Post κs a r₁ s₁ → accounts-good.Post κs a r₂ s₂ → r₁ ≡ r₂
+accounts-good-unique κs a r₁ r₂ s₁ s₂ p q = p ∙ sym q
 
-pub has-member-unique : (part : List ℕ) (group : ℕ) (r₁ r₂ : Bool) → r₁ ≡ hasMember part group → r₂ ≡ hasMember part group → r₁ ≡ r₂
-has-member-unique part group r₁ r₂ p q = p ∙ sym q
+pub has-member-unique : (κs : _) (a : _) (r₁ r₂ : Bool) (s₁ s₂ : _)
+    → has-member.Post κs a r₁ s₁ → has-member.Post κs a r₂ s₂ → r₁ ≡ r₂
+has-member-unique κs a r₁ r₂ s₁ s₂ p q = p ∙ sym q
 
--- the bytes of the part that is handed back
-pub find-account-unique : (part : List ℕ) (number : ℕ) (r₁ r₂ : List ℕ) → r₁ ≡ foundAccount part number → r₂ ≡ foundAccount part number → r₁ ≡ r₂
-find-account-unique part number r₁ r₂ p q = p ∙ sym q
+-- the bytes of the part that is handed back: its place in memory is not promised
+pub find-account-unique : (κs : _) (a : _) (r₁ r₂ : _) (s₁ s₂ : _)
+    → find-account.Post κs a r₁ s₁ → find-account.Post κs a r₂ s₂ → r₁ .now ≡ r₂ .now
+find-account-unique κs a r₁ r₂ s₁ s₂ p q = p .0 ∙ sym (q .0)
 
-pub contracts-good-unique : (rulebook : ℕ) (part : List ℕ) (r₁ r₂ : Bool) → r₁ ≡ contractsGood rulebook part → r₂ ≡ contractsGood rulebook part → r₁ ≡ r₂
-contracts-good-unique rulebook part r₁ r₂ p q = p ∙ sym q
+pub tables-changed-unique : (κs : _) (a : _) (r₁ r₂ : Bool) (s₁ s₂ : _)
+    → tables-changed.Post κs a r₁ s₁ → tables-changed.Post κs a r₂ s₂ → r₁ ≡ r₂
+tables-changed-unique κs a r₁ r₂ s₁ s₂ p q = p ∙ sym q
 
-pub contract-at-unique : (part : List ℕ) (k : ℕ) (r₁ r₂ : Contract) → r₁ ≡ contractIn part k → r₂ ≡ contractIn part k → r₁ ≡ r₂
-contract-at-unique part k r₁ r₂ p q = p ∙ sym q
+pub contracts-good-unique : (κs : _) (a : _) (r₁ r₂ : Bool) (s₁ s₂ : _)
+    → contracts-good.Post κs a r₁ s₁ → contracts-good.Post κs a r₂ s₂ → r₁ ≡ r₂
+contracts-good-unique κs a r₁ r₂ s₁ s₂ p q = p ∙ sym q
 
-pub find-contract-unique : (part : List ℕ) (id : ℕ) (r₁ r₂ : Found) → r₁ ≡ foundContract part id → r₂ ≡ foundContract part id → r₁ ≡ r₂
-find-contract-unique part id r₁ r₂ p q = p ∙ sym q
+pub contract-at-unique : (κs : _) (a : _) (r₁ r₂ : Contract) (s₁ s₂ : _)
+    → contract-at.Post κs a r₁ s₁ → contract-at.Post κs a r₂ s₂ → r₁ ≡ r₂
+contract-at-unique κs a r₁ r₂ s₁ s₂ p q = p ∙ sym q
 
-pub header-of-unique : (log : List ℕ) (r₁ r₂ : Header) → r₁ ≡ headerOf log → r₂ ≡ headerOf log → r₁ ≡ r₂
-header-of-unique log r₁ r₂ p q = p ∙ sym q
+pub find-contract-unique : (κs : _) (a : _) (r₁ r₂ : Found) (s₁ s₂ : _)
+    → find-contract.Post κs a r₁ s₁ → find-contract.Post κs a r₂ s₂ → r₁ ≡ r₂
+find-contract-unique κs a r₁ r₂ s₁ s₂ p q = p ∙ sym q
 
-pub log-fault-unique : (log : List ℕ) (r₁ r₂ : ℕ) → r₁ ≡ logFault log → r₂ ≡ logFault log → r₁ ≡ r₂
-log-fault-unique log r₁ r₂ p q = p ∙ sym q
+pub header-of-unique : (κs : _) (a : _) (r₁ r₂ : Header) (s₁ s₂ : _)
+    → header-of.Post κs a r₁ s₁ → header-of.Post κs a r₂ s₂ → r₁ ≡ r₂
+header-of-unique κs a r₁ r₂ s₁ s₂ p q = p ∙ sym q
 
-pub record-of-unique : (bytes : List ℕ) (r₁ r₂ : Record) → r₁ ≡ recordOf bytes → r₂ ≡ recordOf bytes → r₁ ≡ r₂
-record-of-unique bytes r₁ r₂ p q = p ∙ sym q
+pub text-of-unique : (κs : _) (a : _) (r₁ r₂ : Text) (s₁ s₂ : _)
+    → text-of.Post κs a r₁ s₁ → text-of.Post κs a r₂ s₂ → r₁ ≡ r₂
+text-of-unique κs a r₁ r₂ s₁ s₂ p q = p ∙ sym q
 
-pub record-good-unique : (rulebook : ℕ) (r : Record) (r₁ r₂ : Bool) → r₁ ≡ recordGood rulebook r → r₂ ≡ recordGood rulebook r → r₁ ≡ r₂
-record-good-unique rulebook r r₁ r₂ p q = p ∙ sym q
+pub log-fault-unique : (κs : _) (a : _) (r₁ r₂ : ℕ) (s₁ s₂ : _)
+    → log-fault.Post κs a r₁ s₁ → log-fault.Post κs a r₂ s₂ → r₁ ≡ r₂
+log-fault-unique κs a r₁ r₂ s₁ s₂ p q = p ∙ sym q
+
+pub record-length-unique : (κs : _) (a : _) (r₁ r₂ : ℕ) (s₁ s₂ : _)
+    → record-length.Post κs a r₁ s₁ → record-length.Post κs a r₂ s₂ → r₁ ≡ r₂
+record-length-unique κs a r₁ r₂ s₁ s₂ p q = p ∙ sym q
+
+pub record-of-unique : (κs : _) (a : _) (r₁ r₂ : Record) (s₁ s₂ : _)
+    → record-of.Post κs a r₁ s₁ → record-of.Post κs a r₂ s₂ → r₁ ≡ r₂
+record-of-unique κs a r₁ r₂ s₁ s₂ p q = p ∙ sym q
+
+pub record-good-unique : (κs : _) (a : _) (r₁ r₂ : Bool) (s₁ s₂ : _)
+    → record-good.Post κs a r₁ s₁ → record-good.Post κs a r₂ s₂ → r₁ ≡ r₂
+record-good-unique κs a r₁ r₂ s₁ s₂ p q = p ∙ sym q
+
+pub end-good-unique : (κs : _) (a : _) (r₁ r₂ : Bool) (s₁ s₂ : _)
+    → end-good.Post κs a r₁ s₁ → end-good.Post κs a r₂ s₂ → r₁ ≡ r₂
+end-good-unique κs a r₁ r₂ s₁ s₂ p q = p ∙ sym q

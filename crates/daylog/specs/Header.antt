@@ -6,6 +6,8 @@ use lib.Dec.{ltb, eqb}
 use lib.ListN.{length, getD, take, drop}
 use Rattle.wire.specs.Choice.{pick, within}
 use Rattle.wire.specs.Bytes.{le}
+use Rattle.rules.specs.declared.text.Text.{Text}
+use Rattle.rules.specs.Codes.{isRulebook}
 use Rattle.calendar.specs.Dates.{realDay}
 use Rattle.daylog.specs.declared.header.Header.{Header}
 use Rattle.daylog.specs.Contracts.{contractsGood}
@@ -26,6 +28,10 @@ headerOf log = record {
   spare = le 2 log 14;
 }
 
+-- the text by which a day with this header is judged
+abbrev pub textOf : Header → Text
+textOf h = record { rulebook = h .rulebook }
+
 -- "C, 1 to 32"; "A, 1 to 512"; "14..15 zero"
 abbrev pub sizesGood : Header → Bool
 sizesGood h = within 1 32 (h .contracts) && within 1 512 (h .accounts) && eqb (h .spare) 0
@@ -38,10 +44,10 @@ abbrev pub accountsPart : Header → List ℕ → List ℕ
 accountsPart h log = drop (16 + 8 * h .contracts) log
 
 -- 1: "not 16+8C+8A"; "7, 8: a contract entry; an account entry"
-unfoldable pub tablesFault : Header → List ℕ → ℕ
-tablesFault h log =
+unfoldable pub entriesFault : Header → List ℕ → ℕ
+entriesFault h log =
     pick (not (eqb (length log) (16 + 8 * h .contracts + 8 * h .accounts))) 1
-    (pick (not (contractsGood (h .rulebook) (contractsPart h log))) 7
+    (pick (not (contractsGood (textOf h) (contractsPart h log))) 7
     (pick (not (accountsGood (accountsPart h log))) 8
     0))
 
@@ -49,10 +55,10 @@ tablesFault h log =
 unfoldable pub headFault : Header → List ℕ → ℕ
 headFault h log =
     pick (not (eqb (h .version) 1)) 3
-    (pick (not (eqb (h .rulebook) 1) && not (eqb (h .rulebook) 2)) 4
+    (pick (not (isRulebook (h .rulebook))) 4
     (pick (not (realDay (h .date))) 5
     (pick (not (sizesGood h)) 6
-    (tablesFault h log))))
+    (entriesFault h log))))
 
 -- the first of 1 (under 16), 2, 3, 4, 5, 6, 1, 7, 8 that is given, or 0
 unfoldable pub logFault : List ℕ → ℕ

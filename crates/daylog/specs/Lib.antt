@@ -3,5 +3,8 @@ pub mod Accounts
 pub mod Contracts
 pub mod Records
 pub mod Header
-pub mod Sound
+pub mod GoodLog
+pub mod Rows
+pub mod Way
+pub mod Changed
 pub mod Tables

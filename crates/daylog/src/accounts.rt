@@ -3,7 +3,10 @@ use crate::word::word;
 ghost use mathlib.Core.Path.{_≡_};
 ghost use Prim.Native.Nat.{_+_, _*_, _≤_};
 ghost use lib.ListN.{length};
-ghost use Rattle.daylog.specs.Accounts.{accountFrom, accountAt, accountGood, accountsGood, hasMember, halved, foundAccount};
+ghost use mathlib.Core.Bool.{true};
+ghost use Rattle.daylog.specs.Entries.{entries};
+ghost use Rattle.daylog.specs.Accounts.{accountAt, accountGood, accountsGood, hasMember, accountEntry};
+ghost use Rattle.daylog.specs.Way.{accountFrom, halved, foundAccount};
 
 pub struct Account {
     pub number: u32,
@@ -57,7 +60,7 @@ pub fn accounts_good(part: &[u8]) -> bool
 
 // Whether a group has a non-broker member among the accounts.
 pub fn has_member(part: &[u8], group: u8) -> bool
-    ensures { λ r. ⌜ r ≡ hasMember (now (part .entry)) group ⌝ }
+    ensures { λ r. ⌜ r ≡ hasMember (accountAt (now (part .entry))) (entries (now (part .entry))) group ⌝ }
 {
     let mut none = true;
     for k in 0..part.len() / 8 {
@@ -84,9 +87,11 @@ fn halving(part: &[u8], number: u32) -> usize
     from
 }
 
-// The account's entry as a part of the table, or an empty part where there is none.
+// The account's entry as a part of the table, or an empty part where there is none. In a table that is not in order, it is
+// what halving comes to.
 pub fn find_account(part: &[u8], number: u32) -> &[u8]
     ensures { λ r. ⌜ now r ≡ foundAccount (now (part .entry)) number ⌝ }
+    ensures { λ r. ⌜ (accountsGood (now (part .entry)) ≡ true → now r ≡ accountEntry (now (part .entry)) number) ⌝ }
 {
     if part.len() < 8 {
         return &part[0..0];

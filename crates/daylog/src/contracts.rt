@@ -1,10 +1,12 @@
 // The contract table: entries of 8 bytes, by rising contract id.
 use crate::word::word;
 use rules::measure::Lots;
+use rules::text::Text;
 ghost use mathlib.Core.Path.{_≡_};
 ghost use Prim.Native.Nat.{_+_, _*_, _≤_};
 ghost use lib.ListN.{length};
-ghost use Rattle.daylog.specs.Contracts.{contractFrom, contractAt, contractGood, contractsGood, contractIn, foundContract};
+ghost use Rattle.daylog.specs.Contracts.{contractAt, contractGood, contractsGood, contractIn, foundContract};
+ghost use Rattle.daylog.specs.Way.{contractFrom};
 
 pub struct Contract {
     pub id: u16,
@@ -32,24 +34,24 @@ fn contract_here(part: &[u8], k: usize) -> Contract
     contract_from(word(part, 8 * k), word(part, 8 * k + 4))
 }
 
-fn contract_good(rulebook: u8, before: u16, e: Contract) -> bool
-    ensures { λ r. ⌜ r ≡ contractGood rulebook before e ⌝ }
+fn contract_good(text: Text, before: u16, e: Contract) -> bool
+    ensures { λ r. ⌜ r ≡ contractGood text before e ⌝ }
 {
     (before < e.id)
-        & rules::codes::has_type(rulebook, e.sort)
+        & rules::codes::has_type(text, e.sort)
         & (e.product <= 15)
         & ((1 <= e.largest.0) & (e.largest.0 <= 1000000))
 }
 
-// Whether each entry is good by the rulebook, and its id above the one before.
-pub fn contracts_good(rulebook: u8, part: &[u8]) -> bool
-    ensures { λ r. ⌜ r ≡ contractsGood rulebook (now (part .entry)) ⌝ }
+// Whether each entry is good by the day's text, and its id above the one before.
+pub fn contracts_good(text: Text, part: &[u8]) -> bool
+    ensures { λ r. ⌜ r ≡ contractsGood text (now (part .entry)) ⌝ }
 {
     let mut good = true;
     let mut before = 0;
     for k in 0..part.len() / 8 {
         let e = contract_here(part, k);
-        good = good & contract_good(rulebook, before, e);
+        good = good & contract_good(text, before, e);
         before = e.id;
     }
     good

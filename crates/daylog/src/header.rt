@@ -1,6 +1,8 @@
 // The header, and opening's checks 1 to 8 in their order.
 use crate::accounts::accounts_good;
 use crate::contracts::contracts_good;
+use rules::text::Text;
+use rules::text::is_rulebook;
 use wire::read::get8;
 use wire::read::get16;
 use wire::read::get32;
@@ -15,7 +17,7 @@ use wire::refusal::VERSION;
 ghost use mathlib.Core.Path.{_≡_};
 ghost use Prim.Native.Nat.{_+_, _*_, _≤_};
 ghost use lib.ListN.{length};
-ghost use Rattle.daylog.specs.Header.{headerOf, markGood, sizesGood, tablesFault, headFault, logFault};
+ghost use Rattle.daylog.specs.Header.{headerOf, textOf, markGood, sizesGood, entriesFault, headFault, logFault};
 
 // The header's fields after the mark.
 pub struct Header {
@@ -40,6 +42,15 @@ pub fn header_of(log: &[u8]) -> Header
     }
 }
 
+// The text by which a day with this header is judged.
+pub fn text_of(h: Header) -> Text
+    ensures { λ r. ⌜ r ≡ textOf h ⌝ }
+{
+    Text {
+        rulebook: h.rulebook,
+    }
+}
+
 // "AXD"
 fn mark_good(log: &[u8]) -> bool
     ensures { λ r. ⌜ r ≡ markGood (now (log .entry)) ⌝ }
@@ -56,15 +67,15 @@ fn sizes_good(h: Header) -> bool
 }
 
 // Checks 1 (whole length), 7 and 8: each table's part of the slice is handed to its own check.
-fn tables_fault(h: Header, log: &[u8]) -> u32
+fn entries_fault(h: Header, log: &[u8]) -> u32
     requires { ⌜ 16 ≤ length (now log) ⌝ }
-    ensures { λ r. ⌜ r ≡ tablesFault h (now (log .entry)) ⌝ }
+    ensures { λ r. ⌜ r ≡ entriesFault h (now (log .entry)) ⌝ }
 {
     let middle = 16 + 8 * (h.contracts as usize);
     if log.len() != middle + 8 * (h.accounts as usize) {
         return LENGTH;
     }
-    if !contracts_good(h.rulebook, &log[16..middle]) {
+    if !contracts_good(text_of(h), &log[16..middle]) {
         return CONTRACT_ENTRY;
     }
     if !accounts_good(&log[middle..]) {
@@ -81,7 +92,7 @@ fn head_fault(h: Header, log: &[u8]) -> u32
     if h.version != 1 {
         return VERSION;
     }
-    if (h.rulebook != 1) & (h.rulebook != 2) {
+    if !is_rulebook(h.rulebook as u64) {
         return RULEBOOK;
     }
     if !calendar::is_day(h.date) {
@@ -90,7 +101,7 @@ fn head_fault(h: Header, log: &[u8]) -> u32
     if !sizes_good(h) {
         return SIZES;
     }
-    tables_fault(h, log)
+    entries_fault(h, log)
 }
 
 // The number of the first of opening's checks 1 to 8 that a header with its tables fails, or 0.

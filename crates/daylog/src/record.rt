@@ -1,10 +1,11 @@
-// A record: 20 bytes, and the fields in them that stand by themselves.
+// A record: its length, and the fields in it that stand by themselves; and the end record.
 use rules::measure::Lots;
+use rules::text::Text;
 use wire::read::get8;
 use wire::read::get16;
 use wire::read::get32;
 ghost use mathlib.Core.Path.{_≡_};
-ghost use Rattle.daylog.specs.Records.{recordOf, orderGood, recordGood};
+ghost use Rattle.daylog.specs.Records.{recordLength, recordOf, orderGood, recordGood, endGood};
 
 pub struct Record {
     pub sort: u8,
@@ -17,6 +18,13 @@ pub struct Record {
     pub purpose: u8,
     pub instruction2: u8,
     pub purpose2: u8,
+}
+
+// How many bytes a record has, in a log of a version.
+pub fn record_length(version: u16) -> usize
+    ensures { λ r. ⌜ r ≡ recordLength version ⌝ }
+{
+    20
 }
 
 // The fields of a record's bytes; a byte past the end counts as 0.
@@ -37,22 +45,33 @@ pub fn record_of(bytes: &[u8]) -> Record
     }
 }
 
-fn order_good(rulebook: u8, instruction: u8, purpose: u8) -> bool
-    ensures { λ r. ⌜ r ≡ orderGood rulebook instruction purpose ⌝ }
+fn order_good(text: Text, instruction: u8, purpose: u8) -> bool
+    ensures { λ r. ⌜ r ≡ orderGood text instruction purpose ⌝ }
 {
-    rules::codes::has_instruction(rulebook, instruction)
-        & rules::codes::has_purpose(rulebook, purpose)
+    rules::codes::has_instruction(text, instruction) & rules::codes::has_purpose(text, purpose)
 }
 
 // Whether a record is a trade or a cancel with its own fields in order.
-pub fn record_good(rulebook: u8, r: Record) -> bool
-    ensures { λ a. ⌜ a ≡ recordGood rulebook r ⌝ }
+pub fn record_good(text: Text, r: Record) -> bool
+    ensures { λ a. ⌜ a ≡ recordGood text r ⌝ }
 {
-    let first = order_good(rulebook, r.instruction, r.purpose);
-    let second = order_good(rulebook, r.instruction2, r.purpose2);
+    let first = order_good(text, r.instruction, r.purpose);
+    let second = order_good(text, r.instruction2, r.purpose2);
     let none = (r.second == 0) & (r.instruction2 == 0) & (r.purpose2 == 0);
     (r.spare == 0)
         & ((1 <= r.lots.0) & (r.lots.0 <= 1000000))
         & first
         & (((r.sort == 1) & second) | ((r.sort == 2) & none))
+}
+
+// Whether an end record has its type, and zero in all bytes but those of the number.
+pub fn end_good(row: &[u8]) -> bool
+    ensures { λ r. ⌜ r ≡ endGood (now (row .entry)) ⌝ }
+{
+    (get8(row, 0) == 3)
+        & (get8(row, 1) == 0)
+        & (get16(row, 2) == 0)
+        & (get32(row, 8) == 0)
+        & (get32(row, 12) == 0)
+        & (get32(row, 16) == 0)
 }

@@ -7,7 +7,8 @@ use borrow.Author.Tests.{eqb-true, eqb-false}
 use lib.Dec.{eqb}
 use lib.ListN.{length}
 use Rattle.demands.specs.Calls.{Step, makeBook, openDay, takeRecord, endDay, abandonDay, askBook, lendFindings, numberIn, Desk, Given, Gives, fresh-gives, open-gives, take-gives, end-gives, abandon-gives, ask-gives, lend-gives, none, next}
-use Rattle.demands.specs.Logs.{front, rowsOf, isEnd, Reads, stops, cut, takes, take-refused, end-refused, ends, follows, clerkDesk, Judges, open-refused, opened, fileAfter, none as no-log, next as one-log}
+use Rattle.daylog.specs.Rows.{front, rowSize, rowsOf, isEnd}
+use Rattle.demands.specs.Logs.{Reads, stops, cut, takes, take-refused, end-refused, ends, follows, clerkDesk, Judges, open-refused, opened, fileAfter, none as no-log, next as one-log}
 use Rattle.demands.specs.Demand1.{AlwaysAnswered}
 use Rattle.demands.specs.Demand2.{AlwaysRead}
 
@@ -16,10 +17,10 @@ record Reply (w : Desk) (c : Step) : Type 0 where
   gives : Gives w c given
 
 reply : (w : Desk) (c : Step) → Reply w c
-reply w (makeBook rulebook) = record { given = _; gives = fresh-gives (record { answer = refl; book = refl }) }
-reply w (openDay log) = record { given = _; gives = open-gives (record { answer = refl; counts = refl }) }
-reply w (takeRecord row) = record { given = _; gives = take-gives (record { answer = refl; counts = refl }) }
-reply w (endDay row) = record { given = _; gives = end-gives (record { answer = refl; book-after = refl; findings-after = refl }) }
+reply w (makeBook rulebook) = record { given = _; gives = fresh-gives (record { answer = refl; after = refl }) }
+reply w (openDay log) = record { given = _; gives = open-gives (record { answer = refl; after = refl }) }
+reply w (takeRecord row) = record { given = _; gives = take-gives (record { answer = refl; after = refl }) }
+reply w (endDay row) = record { given = _; gives = end-gives (record { answer = refl; after = refl }) }
 reply w abandonDay = record { given = _; gives = abandon-gives refl }
 reply w (askBook group kind family) = record { given = _; gives = ask-gives refl }
 reply w (lendFindings out) = record { given = _; gives = lend-gives }
@@ -37,7 +38,8 @@ record Left (w : Desk) (rows : List (List ℕ)) : Type 0 where
   after : Desk
   reads : Reads w rows number after
 
-end-row : (w : Desk) (row : List ℕ) (more : List (List ℕ)) → eqb (length row) 20 ≡ true → isEnd row ≡ true → Left w (row ∷ more)
+end-row : (w : Desk) (row : List ℕ) (more : List (List ℕ)) → eqb (length row) (rowSize (w .log)) ≡ true
+    → isEnd row ≡ true → Left w (row ∷ more)
 end-row w row more e f = go more (eqb (numberIn (reply w (endDay row) .given .reply)) 0) refl
   where
     go : (more : List (List ℕ)) (t : Bool) → eqb (numberIn (reply w (endDay row) .given .reply)) 0 ≡ t → Left w (row ∷ more)
@@ -45,8 +47,8 @@ end-row w row more e f = go more (eqb (numberIn (reply w (endDay row) .given .re
     go [] true q = record { number = _; after = _; reads = ends e f (reply w (endDay row) .gives) (eqb-true _ 0 q) }
     go (x ∷ more) true q = record { number = _; after = _; reads = follows e f (reply w (endDay row) .gives) (eqb-true _ 0 q) }
 
-take-row : (w : Desk) (row : List ℕ) (more : List (List ℕ)) → eqb (length row) 20 ≡ true → isEnd row ≡ false
-    → Left (reply w (takeRecord row) .given .after) more → Left w (row ∷ more)
+take-row : (w : Desk) (row : List ℕ) (more : List (List ℕ)) → eqb (length row) (rowSize (w .log)) ≡ true
+    → isEnd row ≡ false → Left (reply w (takeRecord row) .given .after) more → Left w (row ∷ more)
 take-row w row more e f l = go (eqb (numberIn (reply w (takeRecord row) .given .reply)) 0) refl
   where
     go : (t : Bool) → eqb (numberIn (reply w (takeRecord row) .given .reply)) 0 ≡ t → Left w (row ∷ more)
@@ -55,9 +57,12 @@ take-row w row more e f l = go (eqb (numberIn (reply w (takeRecord row) .given .
 
 read-rows : (w : Desk) (rows : List (List ℕ)) → Left w rows
 read-rows w [] = record { number = 1; after = w; reads = stops }
-read-rows w (row ∷ more) = go (eqb (length row) 20) (isEnd row) refl refl (read-rows (reply w (takeRecord row) .given .after) more)
+read-rows w (row ∷ more) =
+    go (eqb (length row) (rowSize (w .log))) (isEnd row) refl refl
+    (read-rows (reply w (takeRecord row) .given .after) more)
   where
-    go : (s t : Bool) → eqb (length row) 20 ≡ s → isEnd row ≡ t → Left (reply w (takeRecord row) .given .after) more → Left w (row ∷ more)
+    go : (s t : Bool) → eqb (length row) (rowSize (w .log)) ≡ s → isEnd row ≡ t
+        → Left (reply w (takeRecord row) .given .after) more → Left w (row ∷ more)
     go false t e f l = record { number = 1; after = w; reads = cut e }
     go true true e f l = end-row w row more e f
     go true false e f l = take-row w row more e f l

@@ -1,5 +1,5 @@
 -- Each call on its own: where the desk stands as the paper does, it gives what the paper says and stands so again. Assumes nothing.
-use mathlib.Core.Path.{_≡_, refl, sym, ap, ap₂, _∙_, subst}
+use mathlib.Core.Path.{_≡_, refl, sym, ap, ap₂, subst}
 use mathlib.Core.Bool.{Bool, true, false}
 use mathlib.Core.List.{List, [], _∷_, map}
 use Prim.Native.Nat.{ℕ, _+_}
@@ -8,34 +8,37 @@ use borrow.Author.Tests.{eqb-true}
 use lib.Dec.{eqb, lit<}
 use lib.ListN.{length}
 use Rattle.wire.specs.Choice.{pick}
-use Rattle.wire.specs.Buffers.{put}
+use Rattle.wire.specs.Answers.{answered}
 use Rattle.wire.proofs.ChoiceLaws.{pick-zero, or-none}
 use Rattle.daylog.specs.declared.record.Record.{Record}
 use Rattle.daylog.specs.Header.{headerOf, logFault}
 use Rattle.daylog.specs.Records.{recordOf}
 use Rattle.daylog.specs.Tables.{tablesOf}
+use Rattle.book.specs.Fits.{bookFault}
+use Rattle.verdict.specs.Verdict.{Verdict, foundCount}
+use Rattle.verdict.specs.Settle.{written}
 use Rattle.desk.specs.declared.state.State.{State}
 use Rattle.desk.specs.declared.state.State.the-variants.{Closed, Open}
+use Rattle.desk.specs.declared.state.Answer.{Answer}
 use Rattle.desk.specs.declared.state.Answer.the-variants.{Done, Refused}
 use Rattle.desk.specs.declared.end.Ended.the-variants.{Done as EndDone, Refused as EndRefused}
-use Rattle.desk.specs.Answers.{answered}
-use Rattle.desk.specs.Judging.{tableFault}
 use Rattle.desk.specs.Cells.{raised}
-use Rattle.desk.specs.Counting.{planOf}
-use Rattle.desk.specs.Take.{takeFault, oneMore}
-use Rattle.desk.specs.Open.{bookFault, openFault, handedFault, dayOf, zeroed}
+use Rattle.desk.specs.Counting.{fieldsFault}
+use Rattle.desk.specs.Take.{takeFault, planIn, oneMore}
+use Rattle.desk.specs.Open.{kindsFor, openFault, handedFault, dayOf, zeroed}
 use Rattle.desk.specs.Abandon.{abandonAnswer}
-use Rattle.desk.specs.Findings.{findings, bookAfter, foundCount}
-use Rattle.desk.specs.End.{inCells, endFault}
-use Rattle.desk.proofs.OpenLaws.{room-there}
-use Rattle.demands.specs.Counts.{timesOn}
+use Rattle.desk.specs.End.{endFault}
+use Rattle.desk.proofs.CallLaws.{room-there}
+use Rattle.demands.specs.Counts.{dayVerdict}
+use Rattle.demands.specs.Days.{blank}
 use Rattle.demands.specs.Calls.{Step, Reply, moved, ended, Desk, deskOf, Given, stateAfter, logAfter, endState, Gives, fresh-gives, open-gives, take-gives, end-gives, abandon-gives, ask-gives, lend-gives, Ran, none, next, left}
-use Rattle.demands.specs.Paper.{Course, idle, during, Paper, Ruled, dayIn, takeNumber, endRefusal, openRuled, takeRuled, endRuled, rule, rules, paperAfter}
+use Rattle.demands.specs.Paper.{Course, idle, during, Paper, Ruled, dayIn, takeNumber, endRefusal, freshBook}
+use Rattle.demands.specs.Paper.{openRuled, takeRuled, endRuled, rule, rules, paperAfter}
 use Rattle.demands.specs.Demand2.{Seen, seen, ruled, begun}
 use Rattle.demands.proofs.DayLaws.{Agrees, agrees-open, agrees-take, raised-room, zeroed-length, take-is, end-is, count-is, book-is, findings-are}
 
-abbrev pub paper : Course → (book out : List ℕ) → ℕ → Paper
-paper course book out room = record { course = course; book = book; out = out; room = room }
+abbrev pub paper : Course → (book out : List ℕ) → (len : ℕ) → Paper
+paper course book out len = record { course = course; book = book; out = out; len = len }
 
 -- no day is open; or one is, and its cells are the times of its records
 pub data Stands : Desk → Paper → Type 0 where
@@ -59,112 +62,133 @@ pub record Same (g : Given) (r : Ruled) : Type 0 where
   pub reply : g .reply ≡ r .reply
   pub after : Stands (g .after) (r .after)
 
--- ---- a day opened
-pub handed-parts : (log book : List ℕ) (room : ℕ) → handedFault log book room ≡ 0 → (logFault log ≡ 0) × (bookFault (headerOf log) book ≡ 0)
-unfolding handedFault
-handed-parts log book room e =
-    let q = or-none (logFault log) _ e in
-    (q .0, or-none (bookFault (headerOf log) book) _ (q .1) .0)
+-- ---- what a call gives, by its fault and whether that is 0
+-- one that moves the state
+abbrev moving : (old new : State) → (Answer → List ℕ) → (counts c book out : List ℕ) → (fault : ℕ) → Bool → Given
+moving old new log counts c book out fault t =
+    let a = pick t (Done new) (Refused fault) in
+    record { reply = moved a; after = deskOf (stateAfter old a) (log a) (pick t counts c) book out }
 
-open-step : (log₀ log c book out : List ℕ) (room : ℕ) → length c ≡ room → Same
-    (record {
-      reply = moved (answered (openFault Closed log book c) (Open (dayOf log)));
-      after = deskOf (stateAfter Closed (answered (openFault Closed log book c) (Open (dayOf log))))
-          (logAfter log₀ log (answered (openFault Closed log book c) (Open (dayOf log)))) (pick (eqb (openFault Closed log book c) 0) (zeroed c) c) book out;
-    })
-    (openRuled (paper idle book out room) log (handedFault log book room))
-unfolding openFault openRuled answered pick
-open-step log₀ log c book out room n = rw (← n) (go (handedFault log book (length c)) (eqb (handedFault log book (length c)) 0) refl refl)
-  where
-    go : (fault : ℕ) (t : Bool) → handedFault log book (length c) ≡ fault → eqb fault 0 ≡ t → Same
-        (record {
-          reply = moved (pick t (Done (Open (dayOf log))) (Refused fault));
-          after = deskOf (stateAfter Closed (pick t (Done (Open (dayOf log))) (Refused fault)))
-              (logAfter log₀ log (pick t (Done (Open (dayOf log))) (Refused fault))) (pick t (zeroed c) c) book out;
-        })
-        (record { reply = moved (pick t (Done (Open (dayIn log []))) (Refused fault)); after = pick t (paper (during log []) book out (length c)) (paper idle book out (length c)) })
-    go fault true q e =
-        let z : handedFault log book (length c) ≡ 0 = q ∙ eqb-true fault 0 e in
-        let h = room-there log book (length c) z in
-        record { reply = refl; after = busy (zeroed-length c h) (agrees-open log c (handed-parts log book (length c) z .0) h) }
-    go fault false q e = record { reply = refl; after = rest refl }
+-- ---- a day opened
+pub handed-parts : (log book : List ℕ) (len : ℕ) → handedFault log book len ≡ 0
+    → (logFault log ≡ 0) × (bookFault (headerOf log .rulebook) (headerOf log .date) book ≡ 0)
+unfolding handedFault
+handed-parts log book len e =
+    let q = or-none (logFault log) _ e in
+    (q .0, or-none (bookFault (headerOf log .rulebook) (headerOf log .date) book) _ (q .1) .0)
+
+module _ (held log c book out : List ℕ) where
+  abbrev handedIs : ℕ
+  handedIs = handedFault log book (length c)
+
+  -- what opening gives, by whether the fault is 0
+  abbrev opening : Bool → Given
+  opening t =
+      let counts = zeroed (kindsFor (headerOf log)) c in
+      moving Closed (Open (dayOf log)) (logAfter held log) counts c book out handedIs t
+
+  open-step : Same (opening (eqb handedIs 0)) (openRuled (paper idle book out (length c)) log handedIs)
+  unfolding openRuled answered pick
+  open-step = go (eqb handedIs 0) refl
+    where
+      go : (t : Bool) → eqb handedIs 0 ≡ t → Same (opening t)
+          (record {
+            reply = moved (pick t (Done (Open (dayIn log []))) (Refused handedIs));
+            after = pick t (paper (during log []) book out (length c)) (paper idle book out (length c));
+          })
+      go true e =
+          let z : handedIs ≡ 0 = eqb-true handedIs 0 e in
+          let h = room-there log book (length c) z in
+          let good = handed-parts log book (length c) z .0 in
+          record { reply = refl; after = busy (zeroed-length _ c h) (agrees-open log c good h) }
+      go false e = record { reply = refl; after = rest refl }
 
 -- ---- a record taken
-pub no-record-fault : (log : List ℕ) (rs : List Record) (row : List ℕ) → takeNumber log rs row ≡ 0 → tableFault (tablesOf log) (recordOf row) ≡ 0
+pub no-record-fault : (log : List ℕ) (rs : List Record) (row : List ℕ) → takeNumber log rs row ≡ 0
+    → fieldsFault (tablesOf log) (recordOf row) ≡ 0
 unfolding takeNumber
-no-record-fault log rs row e = or-none (tableFault (tablesOf log) (recordOf row)) _ (pick-zero _ 1 _ (lit< tt) e .1) .0
+no-record-fault log rs row e = or-none (fieldsFault (tablesOf log) (recordOf row)) _ (pick-zero _ 1 _ (lit< tt) e .1) .0
 
-take-step : (log c book out : List ℕ) (rs : List Record) (row : List ℕ) (room : ℕ) → length c ≡ room → Agrees log rs c → Same
-    (record {
-      reply = moved (answered (takeFault (Open (dayIn log rs)) log row c) (Open (oneMore (dayIn log rs))));
-      after = deskOf (stateAfter (Open (dayIn log rs)) (answered (takeFault (Open (dayIn log rs)) log row c) (Open (oneMore (dayIn log rs))))) log
-          (pick (eqb (takeFault (Open (dayIn log rs)) log row c) 0) (raised (planOf (tablesOf log) (recordOf row)) c) c) book out;
-    })
-    (takeRuled (paper (during log rs) book out room) log rs row (takeNumber log rs row))
-unfolding takeRuled answered pick
-take-step log c book out rs row room n a = rw (take-is log rs c a row) (go (takeNumber log rs row) (eqb (takeNumber log rs row) 0) refl refl)
-  where
-    go : (fault : ℕ) (t : Bool) → takeNumber log rs row ≡ fault → eqb fault 0 ≡ t → Same
-        (record {
-          reply = moved (pick t (Done (Open (oneMore (dayIn log rs)))) (Refused fault));
-          after = deskOf (stateAfter (Open (dayIn log rs)) (pick t (Done (Open (oneMore (dayIn log rs)))) (Refused fault))) log
-              (pick t (raised (planOf (tablesOf log) (recordOf row)) c) c) book out;
-        })
-        (record {
-          reply = moved (pick t (Done (Open (record { head = headerOf log; taken = length rs + 1 }))) (Refused fault));
-          after = pick t (paper (during log (recordOf row ∷ rs)) book out room) (paper (during log rs) book out room);
-        })
-    go fault true q e =
-        let z : takeNumber log rs row ≡ 0 = q ∙ eqb-true fault 0 e in
-        let f = no-record-fault log rs row z in
-        record { reply = refl; after = rw add-one (busy (raised-room log rs c (recordOf row) a f ∙ n) (agrees-take log rs c (recordOf row) a f)) }
-    go fault false q e = record { reply = refl; after = busy n a }
+module _ (log c book out : List ℕ) (rs : List Record) (row : List ℕ) (a : Agrees log rs c) where
+  abbrev takeIs : ℕ
+  takeIs = takeNumber log rs row
+
+  -- what taking gives, by whether the fault is 0
+  abbrev taking : Bool → Given
+  taking t =
+      let counts = raised (kindsFor (headerOf log)) (planIn log row) c in
+      moving (Open (dayIn log rs)) (Open (oneMore (dayIn log rs))) (λ _. log) counts c book out takeIs t
+
+  -- and what the paper says
+  abbrev taken : Bool → Ruled
+  taken t =
+      let after = Open (record { head = headerOf log; taken = length rs + 1 }) in
+      let old = paper (during log rs) book out (length c) in
+      let new = paper (during log (recordOf row ∷ rs)) book out (length c) in
+      record { reply = moved (pick t (Done after) (Refused takeIs)); after = pick t new old }
+
+  take-step : Same (taking (eqb takeIs 0)) (takeRuled (paper (during log rs) book out (length c)) log rs row takeIs)
+  unfolding takeRuled answered pick
+  take-step = go (eqb takeIs 0) refl
+    where
+      go : (t : Bool) → eqb takeIs 0 ≡ t → Same (taking t) (taken t)
+      go true e =
+          let r = recordOf row in
+          let f = no-record-fault log rs row (eqb-true takeIs 0 e) in
+          record { reply = refl; after = rw add-one (busy (raised-room log rs c r a f) (agrees-take log rs c r a f)) }
+      go false e = record { reply = refl; after = busy refl a }
 
 -- ---- a day ended
-end-step : (log c book out : List ℕ) (rs : List Record) (row : List ℕ) (room : ℕ) → length c ≡ room → Agrees log rs c → Same
-    (record {
-      reply = ended (pick (eqb (endFault (Open (dayIn log rs)) log row book c out) 0) (EndDone Closed (foundCount (tablesOf log) (inCells c))) (EndRefused (endFault (Open (dayIn log rs)) log row book c out)));
-      after = deskOf (endState (Open (dayIn log rs)) (pick (eqb (endFault (Open (dayIn log rs)) log row book c out) 0) (EndDone Closed (foundCount (tablesOf log) (inCells c))) (EndRefused (endFault (Open (dayIn log rs)) log row book c out)))) log c
-          (pick (eqb (endFault (Open (dayIn log rs)) log row book c out) 0) (bookAfter (tablesOf log) (headerOf log .date) book (inCells c)) book)
-          (pick (eqb (endFault (Open (dayIn log rs)) log row book c out) 0) (put out 0 (findings (tablesOf log) (headerOf log .date) book (inCells c))) out);
-    })
-    (endRuled (paper (during log rs) book out room) log rs (endRefusal log rs row book (length out)))
-unfolding endRuled pick
-end-step log c book out rs row room n a =
-    rw (end-is log rs c a row book out, count-is log rs c a, book-is log rs c a (headerOf log .date) book, findings-are log rs c a (headerOf log .date) book)
-    (go (endRefusal log rs row book (length out)) (eqb (endRefusal log rs row book (length out)) 0) refl)
-  where
-    go : (fault : ℕ) (t : Bool) → eqb fault 0 ≡ t → Same
-        (record {
-          reply = ended (pick t (EndDone Closed (foundCount (tablesOf log) (timesOn (tablesOf log) rs))) (EndRefused fault));
-          after = deskOf (endState (Open (dayIn log rs)) (pick t (EndDone Closed (foundCount (tablesOf log) (timesOn (tablesOf log) rs))) (EndRefused fault))) log c
-              (pick t (bookAfter (tablesOf log) (headerOf log .date) book (timesOn (tablesOf log) rs)) book)
-              (pick t (put out 0 (findings (tablesOf log) (headerOf log .date) book (timesOn (tablesOf log) rs))) out);
-        })
-        (record {
-          reply = ended (pick t (EndDone Closed (foundCount (tablesOf log) (timesOn (tablesOf log) rs))) (EndRefused fault));
-          after = pick t
-              (paper idle (bookAfter (tablesOf log) (headerOf log .date) book (timesOn (tablesOf log) rs)) (put out 0 (findings (tablesOf log) (headerOf log .date) book (timesOn (tablesOf log) rs))) room)
-              (paper (during log rs) book out room);
-        })
-    go fault true e = record { reply = refl; after = rest n }
-    go fault false e = record { reply = refl; after = busy n a }
+module _ (log c book out : List ℕ) (rs : List Record) (row : List ℕ) (a : Agrees log rs c) where
+  abbrev endIs : ℕ
+  endIs = endRefusal log rs row book (length out)
+
+  -- what ending gives by a verdict, by whether the fault is 0
+  abbrev ending : Verdict → Bool → Given
+  ending v t =
+      let e = pick t (EndDone Closed (foundCount v)) (EndRefused endIs) in
+      let buffers = pick t (written v (headerOf log .date) book out) (book, out) in
+      record { reply = ended e; after = deskOf (endState (Open (dayIn log rs)) e) log c (buffers .0) (buffers .1) }
+
+  end-step : Same (ending (dayVerdict (tablesOf log) rs) (eqb endIs 0))
+      (endRuled (paper (during log rs) book out (length c)) log rs endIs)
+  unfolding endRuled answered pick
+  end-step = go (eqb endIs 0)
+    where
+      go : (t : Bool) → Same (ending (dayVerdict (tablesOf log) rs) t)
+          (record {
+            reply = ended (pick t (EndDone Closed (foundCount (dayVerdict (tablesOf log) rs))) (EndRefused endIs));
+            after =
+                let buffers = written (dayVerdict (tablesOf log) rs) (headerOf log .date) book out in
+                pick t (paper idle (buffers .0) (buffers .1) (length c)) (paper (during log rs) book out (length c));
+          })
+      go true = record { reply = refl; after = rest refl }
+      go false = record { reply = refl; after = busy refl a }
 
 -- ---- any step
 pub step : {w : Desk} {p : Paper} {c : Step} {g : Given} → Stands w p → Gives w c g → Same g (rule p (p .course) c)
-unfolding rule openFault takeFault endFault abandonAnswer answered pick
-step (rest n) (fresh-gives m) = rw (m .answer, m .book) (record { reply = refl; after = rest n })
-step (busy n a) (fresh-gives m) = rw (m .answer, m .book) (record { reply = refl; after = busy n a })
+unfolding rule openFault takeFault endFault abandonAnswer freshBook blank answered pick
+step (rest n) (fresh-gives m) = rw (m .answer, m .after) (record { reply = refl; after = rest n })
+step (busy n a) (fresh-gives m) = rw (m .answer, m .after) (record { reply = refl; after = busy n a })
 step (rest n) (ask-gives e) = rw e (record { reply = refl; after = rest n })
 step (busy n a) (ask-gives e) = rw e (record { reply = refl; after = busy n a })
 step (rest n) lend-gives = record { reply = refl; after = rest n }
 step (busy n a) lend-gives = record { reply = refl; after = busy n a }
-step (rest {held} {c} {book} {out} {room} n) (open-gives {log} m) = rw (m .answer, m .counts) (open-step held log c book out room n)
-step (busy n a) (open-gives m) = rw (m .answer, m .counts) (record { reply = refl; after = busy n a })
-step (rest n) (take-gives m) = rw (m .answer, m .counts) (record { reply = refl; after = rest n })
-step (busy {log} {c} {book} {out} {rs} {room} n a) (take-gives {row} m) = rw (m .answer, m .counts) (take-step log c book out rs row room n a)
-step (rest n) (end-gives m) = rw (m .answer, m .book-after, m .findings-after) (record { reply = refl; after = rest n })
-step (busy {log} {c} {book} {out} {rs} {room} n a) (end-gives {row} m) = rw (m .answer, m .book-after, m .findings-after) (end-step log c book out rs row room n a)
+step (rest {held} {c} {book} {out} n) (open-gives {log} m) =
+    rw (m .answer, m .after, ← n) (open-step held log c book out)
+step (busy n a) (open-gives m) = rw (m .answer, m .after) (record { reply = refl; after = busy n a })
+step (rest n) (take-gives m) = rw (m .answer, m .after) (record { reply = refl; after = rest n })
+step (busy {log} {c} {book} {out} {rs} n a) (take-gives {row} m) =
+    rw (m .answer, m .after, take-is log rs c a row, ← n) (take-step log c book out rs row a)
+step (rest n) (end-gives m) =
+    rw (m .answer, ap (λ x. x .0) (m .after), ap (λ x. x .1) (m .after)) (record { reply = refl; after = rest n })
+step (busy {log} {c} {book} {out} {rs} n a) (end-gives {row} m) =
+    let date = headerOf log .date in
+    let fault = end-is log rs c a row book (length out) in
+    let kept = book-is log rs c a date book in
+    let found = findings-are log rs c a date book in
+    rw (m .answer, ap (λ x. x .0) (m .after), ap (λ x. x .1) (m .after), fault, count-is log rs c a, kept, found, ← n)
+    (end-step log c book out rs row a)
 step (rest n) (abandon-gives e) = rw e (record { reply = refl; after = rest n })
 step (busy n a) (abandon-gives e) = rw e (record { reply = refl; after = rest n })
 

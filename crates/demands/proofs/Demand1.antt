@@ -5,14 +5,14 @@ use mathlib.Core.List.{List, [], _∷_}
 use borrow.Author.Tests.{ne-eqb}
 use lib.Dec.{eqb}
 use Rattle.wire.specs.Choice.{pick}
+use Rattle.wire.specs.Answers.{answered}
 use Rattle.wire.proofs.ChoiceLaws.{pick-no}
-use Rattle.book.specs.Fresh.{freshNumber, freshBook}
+use Rattle.wire.proofs.AnswerLaws.{answer-number, one-outcome}
+use Rattle.book.specs.Fresh.{freshNumber}
 use Rattle.book.specs.Ask.{askNumber}
-use Rattle.book.proofs.Unique.{fresh-unique, ask-unique}
-use Rattle.desk.specs.Answers.{numberOf, answered}
+use Rattle.desk.specs.Answers.{numberOf}
 use Rattle.desk.specs.Abandon.{abandonAnswer}
-use Rattle.desk.proofs.Unique.{open-unique, take-unique, end-unique, abandon-unique}
-use Rattle.desk.proofs.Numbers.{moves-number, ends-number}
+use Rattle.desk.specs.End.{endNumber}
 use Rattle.demands.specs.Calls.{Step, Desk, Given, Gives, fresh-gives, open-gives, take-gives, end-gives, abandon-gives, ask-gives, lend-gives, Ran, none, next}
 use Rattle.demands.specs.Demand1.{AlwaysAnswered, OneAnswer, namedNumber, NumberNamed, RefusalKeeps}
 use Rattle.demands.proofs.NumberLaws.{answered-number, fresh-number, ask-number}
@@ -23,12 +23,13 @@ pub always-answered : AlwaysAnswered
 always-answered = answers
 
 one-given : {w : Desk} {c : Step} {g g′ : Given} → Gives w c g → Gives w c g′ → g ≡ g′
-one-given (fresh-gives m) (fresh-gives n) = let q = fresh-unique _ _ _ _ _ _ m n in rw (q .0, q .1)
-one-given (open-gives m) (open-gives n) = let q = open-unique _ _ _ _ _ _ _ _ m n in rw (q .0, q .1)
-one-given (take-gives m) (take-gives n) = let q = take-unique _ _ _ _ _ _ _ _ m n in rw (q .0, q .1)
-one-given (end-gives m) (end-gives n) = let q = end-unique _ _ _ _ _ _ _ _ _ _ _ _ m n in rw (q .0, q .1, q .2)
-one-given (abandon-gives m) (abandon-gives n) = rw (abandon-unique _ _ _ m n)
-one-given (ask-gives m) (ask-gives n) = rw (ask-unique _ _ _ _ _ _ m n)
+one-given (fresh-gives m) (fresh-gives n) = let q = one-outcome m n in rw (q .0, q .1)
+one-given (open-gives m) (open-gives n) = let q = one-outcome m n in rw (q .0, q .1)
+one-given (take-gives m) (take-gives n) = let q = one-outcome m n in rw (q .0, q .1)
+one-given (end-gives m) (end-gives n) =
+    let q = one-outcome m n in rw (q .0, ap (λ x. x .0) (q .1), ap (λ x. x .1) (q .1))
+one-given (abandon-gives m) (abandon-gives n) = rw (m ∙ sym n)
+one-given (ask-gives m) (ask-gives n) = rw (m ∙ sym n)
 one-given lend-gives lend-gives = refl
 
 pub one-answer : OneAnswer
@@ -40,10 +41,10 @@ one-answer w (c ∷ cs) (g ∷ gs) (h ∷ hs) (next m r) (next n s) =
 -- ---- its number is the one that is named
 pub number-named : NumberNamed
 unfolding namedNumber abandonAnswer
-number-named w c g (fresh-gives {rulebook} m) = ap freshNumber (m .answer) ∙ fresh-number (w .book) rulebook
-number-named w c g (open-gives m) = moves-number m
-number-named w c g (take-gives m) = moves-number m
-number-named w c g (end-gives m) = ends-number m
+number-named w c g (fresh-gives m) = ap freshNumber (m .answer) ∙ fresh-number _
+number-named w c g (open-gives m) = ap numberOf (m .answer) ∙ answered-number _ _
+number-named w c g (take-gives m) = ap numberOf (m .answer) ∙ answered-number _ _
+number-named w c g (end-gives m) = ap endNumber (m .answer) ∙ answer-number _ _ endNumber _ refl refl
 number-named w c g (abandon-gives e) = ap numberOf e ∙ answered-number _ _
 number-named w c g (ask-gives {group} {kind} {family} e) = ap askNumber e ∙ ask-number (w .book) group kind family
 number-named w c g lend-gives = refl
@@ -54,11 +55,13 @@ was : {A : Type 0} {t : Bool} {x old : A} (new : A) → t ≡ false → x ≡ pi
 was new e q = q ∙ sym (pick-no _ _ _ _ e refl)
 
 keeps : {w : Desk} {c : Step} {g : Given} → Gives w c g → eqb (namedNumber w c) 0 ≡ false → g .after ≡ w
-unfolding namedNumber freshBook abandonAnswer answered
-keeps (fresh-gives m) e = rw (was _ e (m .book))
-keeps (open-gives m) e = rw (was _ e (m .answer), was _ e (m .counts))
-keeps (take-gives m) e = rw (was _ e (m .answer), was _ e (m .counts))
-keeps (end-gives m) e = rw (was _ e (m .answer), was _ e (m .book-after), was _ e (m .findings-after))
+unfolding namedNumber abandonAnswer answered
+keeps (fresh-gives m) e = rw (was _ e (m .after))
+keeps (open-gives m) e = rw (was _ e (m .answer), was _ e (m .after))
+keeps (take-gives m) e = rw (was _ e (m .answer), was _ e (m .after))
+keeps (end-gives m) e =
+    let q = was _ e (m .after) in
+    rw (was _ e (m .answer), ap (λ x. x .0) q, ap (λ x. x .1) q)
 keeps (abandon-gives m) e = rw (was _ e m)
 keeps (ask-gives m) e = refl
 keeps lend-gives e = let no : true ≡ false = e in cc

@@ -1,36 +1,41 @@
 -- Demand 2: the theorems to specs/Demand2. Assumes nothing.
 use mathlib.Core.Path.{_≡_, refl, sym, ap, _∙_, subst}
-use mathlib.Core.Logic.{_⊎_, inl, inr}
 use mathlib.Core.Bool.{Bool, true, false}
 use mathlib.Core.List.{List, [], _∷_, _++_}
 use Prim.Native.Nat.{ℕ}
 use native.Mathlib.Omega.{arith}
-use borrow.Author.Tests.{eqb-true, eq-eqb, le-leb}
-use lib.Dec.{leb, eqb, lit<}
+use borrow.Author.Tests.{eqb-true, eq-eqb}
+use lib.Dec.{eqb, lit<}
 use lib.ListN.{length, replicate}
-use Rattle.wire.specs.Choice.{pick, within}
+use Rattle.wire.specs.Choice.{pick}
 use Rattle.wire.specs.Buffers.{put, rows}
-use Rattle.wire.proofs.ChoiceLaws.{pick-yes, pick-no, pick-zero, or-none, and-yes}
+use Rattle.wire.proofs.ChoiceLaws.{pick-yes, pick-no, pick-zero, or-none}
 use Rattle.calendar.specs.Dates.{year}
-use Rattle.book.specs.Fresh.{freshFault, freshBook}
-use Rattle.book.specs.Layout.{ladders}
+use Rattle.rules.specs.declared.kinds.Kinds.{Kinds}
+use Rattle.rules.specs.Codes.{isRulebook}
+use Rattle.rules.specs.Kinds.{kindsOf}
+use Rattle.book.specs.Places.{ladders}
+use Rattle.book.specs.Shape.{dayShape, rulebookOf}
 use Rattle.book.specs.Sound.{sound}
-use Rattle.book.proofs.FreshLaws.{made, fresh-holds}
+use Rattle.book.specs.Fits.{bookFault}
+use Rattle.book.proofs.FreshLaws.{made}
 use Rattle.daylog.specs.declared.record.Record.{Record}
 use Rattle.daylog.specs.Header.{headerOf, logFault}
+use Rattle.daylog.specs.Rows.{front, rowsOf}
 use Rattle.daylog.specs.Tables.{tablesOf}
-use Rattle.desk.specs.Open.{bookFault, handedFault}
-use Rattle.desk.specs.Findings.{foundAt, findings}
+use Rattle.verdict.specs.Verdict.{foundAt, findings}
+use Rattle.desk.specs.Books.{freshFault}
+use Rattle.desk.specs.Open.{handedFault}
 use Rattle.desk.specs.End.{rowFault}
-use Rattle.demands.specs.Counts.{timesOn}
+use Rattle.demands.specs.Counts.{timesOn, dayVerdict}
 use Rattle.demands.specs.Days.{PastDay, endedDay, totalOver, foundOn, blank}
-use Rattle.demands.specs.Calls.{Step, makeBook, openDay, takeRecord, endDay, abandonDay, askBook, lendFindings, numberIn, Desk, Given, Gives, Ran, none, next, left}
-use Rattle.demands.specs.Paper.{during, Paper, dayIn, endRefusal, endRuled, rule, paperAfter}
-use Rattle.demands.specs.Logs.{front, rowsOf, recordsIn, logNumber, dayBook, ruledFile, Judged, JudgesAll, ruledLogs}
+use Rattle.demands.specs.Calls.{Step, makeBook, openDay, takeRecord, endDay, abandonDay, askBook, lendFindings, numberIn, Desk, Given, Gives, Ran, none, next, left, fullRoom}
+use Rattle.demands.specs.Paper.{during, Paper, dayIn, endRefusal, freshBook, endRuled, rule, paperAfter}
+use Rattle.demands.specs.Logs.{clerkCounts, recordsIn, logNumber, dayBook, ruledFile, Judged, JudgesAll, ruledLogs}
 use Rattle.demands.specs.Demand2.{begun, CallsRuled, CellsCounted, None, none as nothing, more, NeverChanged, SoundRun, NeverUnsound, FindingsListed, LowestId, History, recorded, history, since, BookOfDays, TotalsCounted, FreshIsBlank, BlankCarriesNothing, SanctionsFound, FindingsFound, LogsRuled, AlwaysRead, loggedDay, logDays, lastFile, FileOfDays, LogsFound}
 use Rattle.demands.proofs.CallLaws.{Stands, rest, busy, step, stands-book, begins, runs-read, runs-stand, handed-parts, paper}
 use Rattle.demands.proofs.LentLaws.{cells-counted as counted}
-use Rattle.demands.proofs.ListedLaws.{findings-list}
+use Rattle.demands.proofs.ListedLaws.{verdict-kinds, findings-list}
 use Rattle.demands.proofs.IdLaws.{lowest-id as lowest}
 use Rattle.demands.proofs.NumberLaws.{refusal, number-is, never-19, never-17}
 use Rattle.demands.proofs.PaperLaws.{kept-fresh, recorded-end, open-book, take-book, abandon-book}
@@ -59,21 +64,36 @@ never-changed w cs gs e r = all (begins w e) r
     all s none = nothing
     all {p = p} s (next {c = c} g r) =
         let t = step s g in
-        more (λ q. never-19 p (p .course) c (sym (number-is p (p .course) c) ∙ ap numberIn (sym (t .reply)) ∙ q)) (all (t .after) r)
+        more (λ q. never-19 p (p .course) c (sym (number-is p (p .course) c) ∙ ap numberIn (sym (t .reply)) ∙ q))
+        (all (t .after) r)
 
 -- a day ended on a book that allows it
-pub end-ready : (log : List ℕ) (rs : List Record) (row book : List ℕ) (room : ℕ) → logFault log ≡ 0 → endRefusal log rs row book room ≡ 0 → Ready log book
+pub end-ready : (log : List ℕ) (rs : List Record) (row book : List ℕ) (room : ℕ) → logFault log ≡ 0
+    → endRefusal log rs row book room ≡ 0 → Ready log book
 unfolding endRefusal
 end-ready log rs row book room e f =
     let q = or-none (rowFault (dayIn log rs) row) _ (pick-zero _ 1 _ (lit< tt) f .1) in
-    ready log book e (or-none (bookFault (headerOf log) book) _ (q .1) .0)
+    ready log book e (or-none (bookFault (headerOf log .rulebook) (headerOf log .date) book) _ (q .1) .0)
+
+-- ---- a fresh book
+made-known : (len rulebook : ℕ) → freshFault len rulebook ≡ 0 → isRulebook rulebook ≡ true
+made-known len rulebook e = made (dayShape rulebook) len rulebook e .known
+
+pub fresh-is-blank : FreshIsBlank
+unfolding freshBook
+fresh-is-blank book rulebook e = sym (pick-yes _ _ _ _ (eq-eqb _ 0 e) refl)
+
+pub blank-carries-nothing : BlankCarriesNothing
+blank-carries-nothing rulebook y l h = blank-carries rulebook y l h
 
 -- ---- the book stays sound
 sound-fresh : (book : List ℕ) (rulebook : ℕ) → sound book ≡ true → sound (freshBook book rulebook) ≡ true
 sound-fresh book rulebook good = go (eqb (freshFault (length book) rulebook) 0) refl
   where
     go : (t : Bool) → eqb (freshFault (length book) rulebook) 0 ≡ t → sound (freshBook book rulebook) ≡ true
-    go true e = fresh-holds book rulebook (eqb-true _ 0 e) .good
+    go true e =
+        let z = eqb-true _ 0 e in
+        ap sound (fresh-is-blank book rulebook z) ∙ blank-sound rulebook (made-known (length book) rulebook z)
     go false e = ap sound (kept-fresh book rulebook e) ∙ good
 
 sound-step : {w : Desk} {p : Paper} → Stands w p → sound (p .book) ≡ true → (c : Step) → sound (rule p (p .course) c .after .book) ≡ true
@@ -93,35 +113,31 @@ sound-step (busy {log} {c} {book} {out} {rs} {room} n a) good (endDay row) = go 
         ∙ ended-sound log book rs (end-ready log rs row book (length out) (a .sound) (eqb-true _ 0 e))
     go false e = ap (λ (q : Paper). sound (q .book)) (sym (pick-no _ _ _ _ e refl)) ∙ good
 
-pub never-unsound : NeverUnsound
-never-unsound w cs gs r = all (begins w (r .closed)) (r .good) (r .ran)
+-- a fresh book that is asked for in a buffer of another size is refused with 17: so this takes that every rulebook has
+-- as many kinds
+never-unsound-where : ((rulebook other : ℕ) → kindsOf rulebook ≡ kindsOf other) → NeverUnsound
+never-unsound-where alike w cs gs r = all (begins w (r .closed)) (r .good) (r .ran)
   where
-    all : {w : Desk} {p : Paper} {cs : List Step} {gs : List Given} → Stands w p → sound (p .book) ≡ true → Ran w cs gs → None 17 gs
+    all : {w : Desk} {p : Paper} {cs : List Step} {gs : List Given} → Stands w p → sound (p .book) ≡ true
+        → Ran w cs gs → None 17 gs
     all s good none = nothing
     all {p = p} s good (next {c = c} g r) =
         let t = step s g in
-        more (λ q. never-17 p (p .course) c good (sym (number-is p (p .course) c) ∙ ap numberIn (sym (t .reply)) ∙ q)) (all (t .after) (sound-step s good c) r)
+        more
+        (λ q.
+        never-17 p (p .course) c good (λ rulebook. alike rulebook _)
+        (sym (number-is p (p .course) c) ∙ ap numberIn (sym (t .reply)) ∙ q))
+        (all (t .after) (sound-step s good c) r)
+
+-- both rulebooks have three kinds today: the one place in these proofs that looks at the number
+pub never-unsound : NeverUnsound
+unfolding kindsOf
+never-unsound = never-unsound-where (λ rulebook other. refl)
 
 -- ---- the days
-pub one-of : (rulebook : ℕ) → (rulebook ≡ 1) ⊎ (rulebook ≡ 2) → within 1 2 rulebook ≡ true
-one-of rulebook (inl e) = rw e
-one-of rulebook (inr e) = rw e
-
 -- the book is that of a history
 abbrev pub Holds : History → List ℕ → Type 0
 Holds h book = Kept (h .from) (h .days) book
-
-made-known : (len rulebook : ℕ) → freshFault len rulebook ≡ 0 → within 1 2 rulebook ≡ true
-made-known len rulebook e =
-    let m = made len rulebook e in
-    and-yes (leb 1 rulebook) (leb rulebook 2) (le-leb 1 rulebook (m .first-rulebook)) (le-leb rulebook 2 (m .last-rulebook))
-
-pub fresh-is-blank : FreshIsBlank
-unfolding freshBook blank
-fresh-is-blank book rulebook e = sym (pick-yes _ _ _ _ (eq-eqb _ 0 e) refl)
-
-pub blank-carries-nothing : BlankCarriesNothing
-blank-carries-nothing rulebook y l h = blank-carries rulebook y l h
 
 pub holds-fresh : (h : History) (book : List ℕ) (rulebook : ℕ) → Holds h book
     → Holds (pick (eqb (freshFault (length book) rulebook) 0) (record { from = blank rulebook; days = [] }) h) (freshBook book rulebook)
@@ -182,7 +198,9 @@ book-of-days w cs gs r = left-kept r .is
 pub totals-counted : TotalsCounted
 totals-counted w cs gs r l h =
     let k = left-kept r in
-    k .total l h ∙ ap (λ (n : ℕ). totalOver (since w cs .from) (year n) l (since w cs .days)) (sym (k .last))
+    let same = ap (λ (n : ℕ). ladders (kindsOf n)) (k .rulebook) in
+    k .total l (omega (arith, same))
+    ∙ ap (λ (n : ℕ). totalOver (since w cs .from) (year n) l (since w cs .days)) (sym (k .last))
 
 pub sanctions-found : SanctionsFound
 sanctions-found w cs gs r = left-kept r .sanctions
@@ -196,14 +214,23 @@ history-more p h (d ∷ cs) c = history-more (rule p (p .course) d .after) (reco
 
 -- what the rules put in the buffer are the rows of what the day found
 rows-found : {from : List ℕ} {days : List PastDay} (log book : List ℕ) (rs : List Record) → Kept from days book
-    → findings (tablesOf log) (headerOf log .date) book (timesOn (tablesOf log) rs) ≡ rows (foundOn from (endedDay log rs) days) ladders
+    → Ready log book
+    → findings (dayVerdict (tablesOf log) rs) (headerOf log .date) book
+    ≡ rows (foundOn from (endedDay log rs) days) (ladders (kindsOf (rulebookOf from)))
 unfolding findings
-rows-found log book rs k = ap (λ (b : List ℕ). rows (foundAt (tablesOf log) (headerOf log .date) b (timesOn (tablesOf log) rs)) ladders) (k .is)
+rows-found {from} log book rs k q =
+    let t = tablesOf log in
+    let v = dayVerdict t rs in
+    let same : v .shape .kinds ≡ kindsOf (rulebookOf from) =
+    verdict-kinds t (timesOn t rs) ∙ ap kindsOf (sym (q .same) ∙ k .rulebook) in
+    ap (λ (x : Kinds). rows (foundAt v (headerOf log .date) book) (ladders x)) same
+    ∙ ap (λ (b : List ℕ). rows (foundAt v (headerOf log .date) b) (ladders (kindsOf (rulebookOf from)))) (k .is)
 
 record EndFound (v : Desk) (p : Paper) (h : History) (row : List ℕ) (g : Given) : Type 0 where
   day : PastDay
   one-more : recorded p (p .course) (endDay row) h .days ≡ day ∷ h .days
-  bytes : g .after .out ≡ put (v .out) 0 (rows (foundOn (h .from) day (h .days)) ladders)
+  bytes : g .after .out
+      ≡ put (v .out) 0 (rows (foundOn (h .from) day (h .days)) (ladders (kindsOf (rulebookOf (h .from)))))
 
 end-found : {v : Desk} {p : Paper} (h : History) (row : List ℕ) (g : Given) → Stands v p → Holds h (p .book) → Gives v (endDay row) g
     → numberIn (g .reply) ≡ 0 → EndFound v p h row g
@@ -214,7 +241,9 @@ end-found h row g (busy {log} {c} {book} {out} {rs} {room} n a) k m z =
     let e : endRefusal log rs row book (length out) ≡ 0 = sym (end-number row s m) ∙ z in record {
       day = endedDay log rs;
       one-more = ap (λ (q : History). q .days) (recorded-end (paper (during log rs) book out room) log rs row h e);
-      bytes = end-holds row s m e .in-out ∙ ap (put out 0) (rows-found log book rs k);
+      bytes =
+          end-holds row s m e .in-out
+          ∙ ap (put out 0) (rows-found log book rs k (end-ready log rs row book (length out) (a .sound) e));
     }
 
 pub findings-found : FindingsFound
@@ -239,14 +268,19 @@ unfolding pick
 kept-pick true from days₁ days book₁ book y n = y refl
 kept-pick false from days₁ days book₁ book y n = n
 
+-- a log that is accepted is of a day that may be ended on the book
+log-ready : (book log : List ℕ) → logNumber book log ≡ 0 → Ready (front log) book
+unfolding logNumber
+log-ready book log e =
+    let q = handed-parts (front log) book clerkCounts (or-none (handedFault (front log) book clerkCounts) _ e .0) in
+    ready (front log) book (q .0) (q .1)
+
 log-kept : (from : List ℕ) (days : List PastDay) (book log : List ℕ) → Kept from days book
     → Kept from (pick (eqb (logNumber book log) 0) (loggedDay log ∷ days) days) (ruledFile book log)
-unfolding ruledFile logNumber
+unfolding ruledFile
 log-kept from days book log k =
     kept-pick (eqb (logNumber book log) 0) from _ days (dayBook book log) book
-    (λ e.
-    let q = handed-parts (front log) book 12288 (or-none (handedFault (front log) book 12288) _ (eqb-true _ 0 e) .0) in
-    kept-day from days (front log) book (recordsIn [] (rowsOf log)) k (ready (front log) book (q .0) (q .1))) k
+    (λ e. kept-day from days (front log) book (recordsIn [] (rowsOf log)) k (log-ready book log (eqb-true _ 0 e))) k
 
 pub logs-kept : (from : List ℕ) (days : List PastDay) (book : List ℕ) (logs : List (List ℕ)) → Kept from days book
     → Kept from (logDays book days logs) (lastFile book (ruledLogs book logs))
@@ -265,5 +299,9 @@ file-of-days book logs js good r = file-kept book logs js good r .is
 
 pub logs-found : LogsFound
 logs-found book logs js good r log w j =
-    judges (lastFile book js) log j .written refl .in-out
-    ∙ ap (put (replicate 49152 0) 0) (rows-found (front log) (lastFile book js) (recordsIn [] (rowsOf log)) (file-kept book logs js good r))
+    let file = lastFile book js in
+    let q = judges file log j in
+    q .written refl .in-out
+    ∙ ap (put (replicate fullRoom 0) 0)
+    (rows-found (front log) file (recordsIn [] (rowsOf log)) (file-kept book logs js good r)
+    (log-ready file log (sym (q .same))))

@@ -1,25 +1,31 @@
 -- Demand 3: the theorems to specs/Demand3. Assumes nothing.
-use mathlib.Core.Path.{_≡_, sym, ap, _∙_}
+use mathlib.Core.Path.{_≡_, sym, ap, _∙_, subst}
 use mathlib.Core.Bool.{true}
 use mathlib.Core.List.{List, [], map}
-use Prim.Native.Nat.{ℕ, _≤_, _<_}
+use Prim.Native.Nat.{ℕ, _+_, _≤_, _<_}
 use native.Mathlib.Omega.{arith}
+use Rattle.rules.specs.declared.kinds.Kinds.{Kinds}
+use Rattle.rules.specs.declared.kinds.Kinds.the-variants.{One, Three, Four}
+use Rattle.rules.specs.Kinds.{kindsOf, kindsIn, firstKind}
+use Rattle.rules.proofs.KindLaws.{kinds-begin}
+use Rattle.book.specs.Places.{HasCell}
 use Rattle.book.specs.Sound.{sound}
 use Rattle.daylog.specs.Tables.{tablesOf}
+use Rattle.desk.specs.Offences.{kindsOn}
 use Rattle.demands.specs.Counts.{timesOf}
-use Rattle.demands.specs.Days.{blank}
+use Rattle.demands.specs.Days.{PastDay, blank}
 use Rattle.demands.specs.Calls.{Step, numberIn, Desk, Given, Ran, none as no-step, next, left}
 use Rattle.demands.specs.Paper.{Course, idle, Paper, numbersOn}
-use Rattle.demands.specs.Lent.{HasCell, cellIn, CountsHold}
+use Rattle.demands.specs.Lent.{cellIn, CountsHold}
 use Rattle.demands.specs.Demand2.{Seen, begun, SoundRun, History, since}
 use Rattle.demands.specs.Join.{joinLog, between}
-use Rattle.demands.specs.Demand3.{Two, Added, Accepted, none, more, Fair, accepted as was-accepted, full-size as was-full-size, FreshRun, Run, CellsAdded, NothingLost, NothingLostInLogs}
+use Rattle.demands.specs.Demand3.{Two, Added, Accepted, none, more, Fair, accepted as was-accepted, full-size as was-full-size, FreshRun, Run, CellsAdded, YearJoined, NothingLost, NothingLostInLogs}
 use Rattle.demands.proofs.CallLaws.{Stands, step, stands-book, begins, runs-read}
 use Rattle.demands.proofs.NumberLaws.{number-is}
-use Rattle.demands.proofs.TotalLaws.{kept-none, blank-sound}
-use Rattle.demands.proofs.Demand2.{one-of, sound-run, logs-ruled, cells-counted}
+use Rattle.demands.proofs.TotalLaws.{kept-none, blank-sound, blank-rulebook}
+use Rattle.demands.proofs.Demand2.{sound-run, logs-ruled, cells-counted}
 use Rattle.demands.proofs.JoinTables.{joined-log}
-use Rattle.demands.proofs.JoinYears.{years-fresh, times-join, year-joined}
+use Rattle.demands.proofs.JoinYears.{kinds-joined, years-fresh, times-join, year-joined}
 use Rattle.demands.proofs.JoinRun.{AcceptedBy, Fits, accepted, full-size, Twin, both-idle, both-open, Beside, Runs, runs}
 use Rattle.demands.proofs.JoinLogs.{files}
 
@@ -32,42 +38,70 @@ accepted-by {p = p} s (next {c = c} g r) (more e y) =
     (sym (number-is p (p .course) c) ∙ ap numberIn (sym (t .reply)) ∙ e, accepted-by (t .after) r y)
 
 -- ---- the lent cells: they are the times of the day last opened, and those add
-cell-of : (group kind place : ℕ) → 1 ≤ group → group ≤ 128 → 1 ≤ kind → kind ≤ 3 → place < 32 → HasCell group kind place
-cell-of group kind place p q r t u = record { first-group = p; last-group = q; first-kind = r; last-kind = t; last-place = u }
+-- kinds that begin at 1 are three at least
+three-kinds : (k : Kinds) → firstKind k ≡ 1 → 3 ≤ kindsIn k
+unfolding firstKind kindsIn
+three-kinds One e = absurd (omega arith)
+three-kinds Three e = omega arith
+three-kinds Four e = omega arith
 
-module _ (a b : ℕ) (two : Two a b) (n n′ m m′ : (group kind place : ℕ) → ℕ) (across : ℕ → ℕ)
-    (e : (group kind place : ℕ) → HasCell group kind place → m group kind place ≡ n group kind place)
-    (e′ : (group kind place : ℕ) → HasCell group kind place → m′ group kind place ≡ n′ group kind place) where
-  added-as : Added a b n n′ across → Added a b m m′ across
+module _ (kinds : Kinds) (begin : firstKind kinds ≡ 1) (a b : ℕ) (two : Two a b) (n n′ m m′ : (group kind place : ℕ) → ℕ)
+    (across : ℕ → ℕ)
+    (e : (group kind place : ℕ) → HasCell kinds group kind place → m group kind place ≡ n group kind place)
+    (e′ : (group kind place : ℕ) → HasCell kinds group kind place → m′ group kind place ≡ n′ group kind place) where
+  cell-of : (group kind place : ℕ) → 1 ≤ group → group ≤ 128 → 1 ≤ kind → kind ≤ 3 → place < 32 → HasCell kinds group kind place
+  cell-of group kind place p q r t u = record {
+    row = record {
+      first-group = p;
+      last-group = q;
+      first-kind = omega arith;
+      last-kind = omega (arith, three-kinds kinds begin);
+    };
+    last-place = u;
+  }
+
+  -- a kind that every rulebook has, of a and of b before the join, and of b after it
+  at-a : (kind place : ℕ) → 1 ≤ kind → kind ≤ 3 → place < 32 → m a kind place ≡ n a kind place
+  at-a kind place low high h = e a kind place (cell-of a kind place (two .first-a) (two .last-a) low high h)
+
+  at-b : (kind place : ℕ) → 1 ≤ kind → kind ≤ 3 → place < 32 → m b kind place ≡ n b kind place
+  at-b kind place low high h = e b kind place (cell-of b kind place (two .first-b) (two .last-b) low high h)
+
+  after : (kind place : ℕ) → 1 ≤ kind → kind ≤ 3 → place < 32 → m′ b kind place ≡ n′ b kind place
+  after kind place low high h = e′ b kind place (cell-of b kind place (two .first-b) (two .last-b) low high h)
+
+  -- a kind of which the two are added and something more
+  adds : (kind place extra : ℕ) → 1 ≤ kind → kind ≤ 3 → place < 32 → n′ b kind place ≡ n a kind place + n b kind place + extra
+      → m′ b kind place ≡ m a kind place + m b kind place + extra
+  adds kind place extra low high h q =
+      omega (arith, q, at-a kind place low high h, at-b kind place low high h, after kind place low high h)
+
+  added-as : Added kinds a b n n′ across → Added kinds a b m m′ across
   added-as q = record {
-    selfs = λ place h. omega (arith, q .selfs place h, at-a 1 place (omega arith) (omega arith) h, at-b 1 place (omega arith) (omega arith) h, after 1 place (omega arith) (omega arith) h);
-    frequent = λ place h. omega (arith, q .frequent place h, at-a 2 place (omega arith) (omega arith) h, at-b 2 place (omega arith) (omega arith) h, after 2 place (omega arith) (omega arith) h);
-    over = λ place h. omega (arith, q .over place h, at-a 3 place (omega arith) (omega arith) h, at-b 3 place (omega arith) (omega arith) h, after 3 place (omega arith) (omega arith) h);
+    selfs = λ place h. adds 1 place (across place) (omega arith) (omega arith) h (q .selfs place h);
+    frequent = λ place h. omega (arith, adds 2 place 0 (omega arith) (omega arith) h (omega (arith, q .frequent place h)));
+    over = λ place h. omega (arith, adds 3 place 0 (omega arith) (omega arith) h (omega (arith, q .over place h)));
     none-left = λ kind place h. e′ a kind place h ∙ q .none-left kind place h;
     others = λ group kind place h o. e′ group kind place h ∙ q .others group kind place h o ∙ sym (e group kind place h);
   }
-    where
-      at-a : (kind place : ℕ) → 1 ≤ kind → kind ≤ 3 → place < 32 → m a kind place ≡ n a kind place
-      at-a kind place low high h = e a kind place (cell-of a kind place (two .first-a) (two .last-a) low high h)
 
-      at-b : (kind place : ℕ) → 1 ≤ kind → kind ≤ 3 → place < 32 → m b kind place ≡ n b kind place
-      at-b kind place low high h = e b kind place (cell-of b kind place (two .first-b) (two .last-b) low high h)
-
-      after : (kind place : ℕ) → 1 ≤ kind → kind ≤ 3 → place < 32 → m′ b kind place ≡ n′ b kind place
-      after kind place low high h = e′ b kind place (cell-of b kind place (two .first-b) (two .last-b) low high h)
-
-cells-join : {a b : ℕ} {last last′ : Course} (lent lent′ c c′ : List ℕ) → Two a b → Twin a b last last′ → CountsHold last lent c → CountsHold last′ lent′ c′
-    → CellsAdded a b last c c′
+cells-join : {a b : ℕ} {last last′ : Course} (lent lent′ c c′ : List ℕ) → Two a b → Twin a b last last′
+    → CountsHold last lent c → CountsHold last′ lent′ c′ → CellsAdded a b last c c′
 cells-join lent lent′ c c′ two both-idle h h′ = tt
 cells-join {a} {b} lent lent′ c c′ two (both-open {log} {rs} e) h h′ =
     let t = tablesOf log in
     let t′ = tablesOf (joinLog a b log) in
-    let j = joined-log a b log (two .first-a) (two .last-a) (two .first-b) (two .last-b) in
-    added-as a b two (timesOf t rs) (timesOf t′ rs) (cellIn c) (cellIn c′) (between t rs a b) (h .times) (h′ .times) (times-join a b two t t′ rs (j .tables e))
+    let kinds = kindsOn t in
+    let j = joined-log a b log (two .first-a) (two .last-a) (two .first-b) (two .last-b) .tables e in
+    let after : (group kind place : ℕ) → HasCell kinds group kind place → cellIn kinds c′ group kind place ≡ timesOf t′ rs group kind place =
+    subst (λ (k : Kinds). (group kind place : ℕ) → HasCell k group kind place → cellIn k c′ group kind place ≡ timesOf t′ rs group kind place)
+    (kinds-joined j) (h′ .times) in
+    added-as kinds (kinds-begin (t .text .rulebook)) a b two (timesOf t rs) (timesOf t′ rs) (cellIn kinds c) (cellIn kinds c′)
+    (between t rs a b) (h .times) after (times-join a b two t t′ rs j)
 
 -- ---- lists of steps
 sound-fresh : {rulebook : ℕ} {w : Desk} {cs : List Step} {gs : List Given} → FreshRun rulebook w cs gs → SoundRun w cs gs
-sound-fresh {rulebook} r = record { closed = r .closed; good = ap sound (r .fresh) ∙ blank-sound rulebook (one-of rulebook (r .known)); ran = r .ran }
+sound-fresh {rulebook} r = record { closed = r .closed; good = ap sound (r .fresh) ∙ blank-sound rulebook (r .known); ran = r .ran }
 
 module _ (a b rulebook : ℕ) (w w′ : Desk) (cs cs′ : List Step) (gs gs′ : List Given) (r : Run a b rulebook w w′ cs cs′ gs gs′) where
   abbrev start : Desk → History
@@ -80,7 +114,7 @@ module _ (a b rulebook : ℕ) (w w′ : Desk) (cs cs′ : List Step) (gs gs′ :
   }
     where
       good : sound (blank rulebook) ≡ true
-      good = blank-sound rulebook (one-of rulebook (r .run .known))
+      good = blank-sound rulebook (r .run .known)
 
   fits : Fair w w′ cs gs → Fits (begun w) (begun w′) cs
   fits (was-accepted y n) = accepted (accepted-by (begins w (r .run .closed)) (r .run .ran) y) n
@@ -105,9 +139,18 @@ nothing-lost a b rulebook w w′ cs cs′ gs gs′ r =
     }
 
 -- ---- day logs
+-- the kinds of a fresh book are its rulebook's
+year-kinds : {k k′ : Kinds} {a b : ℕ} {from book book′ : List ℕ} {days days′ : List PastDay} → k ≡ k′
+    → YearJoined k a b from book book′ days days′ → YearJoined k′ a b from book book′ days days′
+year-kinds {a = a} {b} {from} {book} {book′} {days} {days′} e y =
+    subst (λ (x : Kinds). YearJoined x a b from book book′ days days′) e y
+
 pub nothing-lost-in-logs : NothingLostInLogs
 nothing-lost-in-logs a b rulebook logs js js′ two known r r′ =
-    let k = kept-none (blank rulebook) (blank-sound rulebook (one-of rulebook known)) in
+    let k = kept-none (blank rulebook) (blank-sound rulebook known) in
     let q = files a b two (blank rulebook) (blank rulebook) [] [] (blank rulebook) (blank rulebook) logs (years-fresh a b rulebook k k) in
     rw (logs-ruled (blank rulebook) logs js r, logs-ruled (blank rulebook) (map (joinLog a b) logs) js′ r′)
-    (record { same-numbers = q .numbers; year = year-joined a b two _ _ _ _ (q .years) })
+    (record {
+      same-numbers = q .numbers;
+      year = year-kinds (ap kindsOf (blank-rulebook rulebook)) (year-joined a b two _ _ _ _ (q .years));
+    })

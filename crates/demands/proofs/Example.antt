@@ -10,10 +10,13 @@ use Rattle.rules.specs.Choices.{byThree}
 use Rattle.rules.specs.Exemption.{known, exempt}
 use Rattle.rules.specs.Measure.{enough}
 use Rattle.rules.specs.Ladders.{family, rung, sanction}
-use Rattle.book.specs.Layout.{headOf, bookOf}
-use Rattle.desk.specs.Counting.{accountOf, contractOf, hasAccount, groupOf, planFor, planOf, counted, countsFor}
+use Rattle.rules.specs.Kinds.{kindsOf, kindsIn, firstKind}
+use Rattle.book.specs.Layout.{headOf, bookAs}
+use Rattle.daylog.specs.Accounts.{accountPlace, hasMember}
+use Rattle.daylog.specs.Contracts.{contractPlace}
+use Rattle.daylog.specs.Tables.{accountOf, contractOf, hasAccount, groupOf, memberOn}
+use Rattle.desk.specs.Counting.{planFor, planOf, countsAs, countsFor}
 use Rattle.desk.specs.Offences.{familyOf}
-use Rattle.desk.specs.Findings.{memberOn}
 use Rattle.demands.specs.Counts.{howMany, timesOf, reachesOn, offence}
 use Rattle.demands.specs.Days.{offenceOn, offenceDays, carried, totalOver, blank}
 use Rattle.demands.specs.Join.{Joined, joined}
@@ -29,7 +32,7 @@ group-joins false = refl
 tables-join : Joined 1 2 (tablesWith 1) (tablesWith 2)
 unfolding tablesWith
 tables-join = record {
-  rulebook = refl;
+  text = refl;
   contracts = refl;
   contract = λ k. refl;
   accounts = refl;
@@ -39,8 +42,9 @@ tables-join = record {
 }
 
 -- the four numbers
-numbers : (threeAlone 1 (daysWith 1) ≡ 1) × (threeAlone 2 (daysWith 2) ≡ 0) × (threeOrFive 1 (daysWith 1) ≡ 1) × (threeOrFive 2 (daysWith 2) ≡ 1)
-unfolding threeAlone threeOrFive daysWith dayOf tablesWith ownTrade sanctions sanctionOn offenceDays offenceOn totalOver carried blank bookOf headOf le bytes offence reachesOn timesOf howMany memberOn familyOf countsFor counted planOf planFor groupOf hasAccount contractOf accountOf sanction rung family enough exempt known byThree first some every pick
+numbers : (threeAlone 1 (daysWith 1) ≡ 1) × (threeAlone 2 (daysWith 2) ≡ 0)
+    × (threeOrFive 1 (daysWith 1) ≡ 1) × (threeOrFive 2 (daysWith 2) ≡ 1)
+unfolding threeAlone threeOrFive daysWith dayOf tablesWith ownTrade sanctions sanctionOn offenceDays offenceOn totalOver carried blank bookAs headOf le bytes offence reachesOn timesOf howMany memberOn hasMember familyOf countsFor countsAs planOf planFor groupOf hasAccount contractOf accountOf accountPlace contractPlace kindsOf kindsIn firstKind sanction rung family enough exempt known byThree first some every pick
 numbers = (refl, refl, refl, refl)
 
 pub why-three-or-five : WhyThreeOrFive

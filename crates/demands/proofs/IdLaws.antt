@@ -11,11 +11,12 @@ use lib.Dec.{leb, ltb}
 use Rattle.wire.specs.Choice.{within}
 use Rattle.wire.proofs.ChoiceLaws.{and-left}
 use Rattle.wire.proofs.PlaceLaws.{every-at, first-below}
+use Rattle.rules.specs.declared.text.Text.{Text}
 use Rattle.rules.specs.Codes.{hasType}
 use Rattle.daylog.specs.declared.contracts.Contract.{Contract}
 use Rattle.daylog.specs.Contracts.{contractAt, idBefore, contractGood, contractGoodAt, contractsGood}
 use Rattle.daylog.specs.Entries.{entries}
-use Rattle.daylog.specs.Header.{headerOf, contractsPart, logFault}
+use Rattle.daylog.specs.Header.{headerOf, textOf, contractsPart, logFault}
 use Rattle.daylog.specs.Tables.{tablesIn, tablesOf}
 use Rattle.daylog.proofs.FaultLaws.{log-sound}
 use Rattle.desk.specs.Offences.{lowestOn}
@@ -24,18 +25,18 @@ use Rattle.demands.specs.Demand2.{LowestId}
 use Rattle.demands.proofs.ListedLaws.{lowest-is}
 
 -- ---- a contract of a later place has a higher id
-id-above : (rulebook before : ℕ) (e : Contract) → contractGood rulebook before e ≡ true → before < e .id
-id-above rulebook before e h =
+id-above : (text : Text) (before : ℕ) (e : Contract) → contractGood text before e ≡ true → before < e .id
+id-above text before e h =
     let rises = ltb before (e .id) in
-    let type = hasType rulebook (e .sort) in
+    let type = hasType text (e .sort) in
     let product = leb (e .product) 15 in
     let largest = within 1 1000000 (e .largest .0) in
     ltb-true before (e .id) (and-left rises type (and-left (rises && type) product (and-left (rises && type && product) largest h)))
 
-module _ (rulebook : ℕ) (s : List ℕ) (good : contractsGood rulebook s ≡ true) where
+module _ (text : Text) (s : List ℕ) (good : contractsGood text s ≡ true) where
   above : (k : ℕ) → k < entries s → idBefore s k < contractAt s k .id
   unfolding contractsGood
-  above k l = id-above rulebook (idBefore s k) (contractAt s k) (every-at (contractGoodAt rulebook s) (entries s) k good l)
+  above k l = id-above text (idBefore s k) (contractAt s k) (every-at (contractGoodAt text s) (entries s) k good l)
 
   rising : (j k : ℕ) → j ≤ k → k < entries s → contractAt s j .id ≤ contractAt s k .id
   unfolding idBefore
@@ -47,7 +48,7 @@ module _ (rulebook : ℕ) (s : List ℕ) (good : contractsGood rulebook s ≡ tr
 ids-rise : (log : List ℕ) → logFault log ≡ 0 → (j k : ℕ) → j ≤ k → k < tablesOf log .contracts
     → tablesOf log .contract j .id ≤ tablesOf log .contract k .id
 unfolding tablesOf tablesIn
-ids-rise log e = rising (headerOf log .rulebook) (contractsPart (headerOf log) log) (log-sound log e .contracts)
+ids-rise log e = rising (textOf (headerOf log)) (contractsPart (headerOf log) log) (log-sound log e .contracts)
 
 -- ---- so a place with a lower id stands before the lowest that reached the number
 pub lowest-id : LowestId

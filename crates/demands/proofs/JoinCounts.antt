@@ -6,21 +6,22 @@ use mathlib.Core.List.{List}
 use Prim.Native.Nat.{ℕ, zero, suc, _+_, _≤_}
 use native.Mathlib.Omega.{arith}
 use borrow.Author.Tests.{eqb-true, eqb-false, eq-eqb, ne-eqb, leb-true, le-leb, lt-leb}
-use lib.Dec.{ltb, eqb}
+use lib.Dec.{leb, ltb, eqb}
 use Rattle.wire.specs.Choice.{pick}
 use Rattle.wire.specs.Places.{some, first}
-use Rattle.wire.proofs.ChoiceLaws.{pick-yes, pick-no, and-left, and-right, and-yes, and-no-right, same-test}
+use Rattle.wire.proofs.ChoiceLaws.{pick-yes, pick-no, and-left, and-right, and-yes, and-no, and-no-right, same-test}
 use Rattle.wire.proofs.PlaceLaws.{some-cong, some-none, some-more, first-cong}
-use Rattle.rules.specs.Choices.{byThree}
-use Rattle.rules.specs.Measure.{never, times, enough, reached}
+use Rattle.rules.specs.declared.measure.Times.{Times}
+use Rattle.rules.specs.declared.text.Text.{Text}
+use Rattle.rules.specs.Measure.{times, enough, reached}
 use Rattle.daylog.specs.declared.contracts.Contract.{Contract}
 use Rattle.daylog.specs.declared.record.Record.{Record}
-use Rattle.daylog.specs.Tables.{Tables}
+use Rattle.daylog.specs.Accounts.{accountPlace, hasMember}
+use Rattle.daylog.specs.Contracts.{contractPlace}
+use Rattle.daylog.specs.Tables.{Tables, accountOf, contractOf, hasAccount, hasContract, groupOf, memberOn}
 use Rattle.desk.specs.declared.judge.Plan.{Plan}
-use Rattle.desk.specs.Counting.{accountOf, contractOf, hasAccount, hasContract, groupOf, exempt1, exempt2, planFor, planOf, counted, countsFor}
-use Rattle.desk.specs.Judging.{tableFault}
+use Rattle.desk.specs.Counting.{exempt1, exempt2, planFor, planOf, countsAs, countsFor, fieldsFault}
 use Rattle.desk.specs.Offences.{familyOf}
-use Rattle.desk.specs.Findings.{memberOn}
 use Rattle.demands.specs.Counts.{timesOf, reachesOn, offence}
 use Rattle.demands.specs.Join.{joined, Joined, betweenFor, between}
 use Rattle.demands.proofs.ManyLaws.{many-cong, many-none, many-two, many-three}
@@ -125,21 +126,23 @@ around s m1 m2 c o x o1 y o2 z w e =
     rw (inner-last s m1 m2 c o x, inner-last s m1 m2 c o1 y, inner-last s m1 m2 c o2 z, last-two (s && m1 && m2) w c)
     (behind (s && m1 && m2 && c) (o && x) (o1 && y) (o2 && z) w e)
 
--- ---- general laws: the number of times that is enough is never 0
-pick-ge : (t : Bool) (x y : ℕ) → 1 ≤ x → 1 ≤ y → 1 ≤ pick t x y
-unfolding pick
-pick-ge true x y p q = p
-pick-ge false x y p q = q
+-- ---- general laws: reaching a number
+-- no fewer times reach what these reach
+pub reached-more : (n m : ℕ) (number : Times) → n ≤ m → reached (times n) number ≡ true → reached (times m) number ≡ true
+reached-more n m number up e =
+    let low : number .0 ≤ n = leb-true _ _ (and-right (leb 1 (number .0)) (leb (number .0) n) e) in
+    and-yes (leb 1 (number .0)) (leb (number .0) m) (and-left (leb 1 (number .0)) (leb (number .0) n) e)
+    (le-leb (number .0) m (omega arith))
 
-by-three-ge : (k x y z w : ℕ) → 1 ≤ x → 1 ≤ y → 1 ≤ z → 1 ≤ w → 1 ≤ byThree k x y z w
-unfolding byThree
-by-three-ge k x y z w p q r s = pick-ge (eqb k 1) x _ p (pick-ge (eqb k 2) y _ q (pick-ge (eqb k 3) z w r s))
-
-pub enough-some : (rulebook kind : ℕ) → 1 ≤ enough rulebook kind .0
-unfolding enough
-enough-some rulebook kind =
-    pick-ge (eqb rulebook 1) _ _ (by-three-ge kind 5 500 400 never (omega arith) (omega arith) (omega arith) (omega arith))
-    (pick-ge (eqb rulebook 2) _ _ (by-three-ge kind 5 500 100 never (omega arith) (omega arith) (omega arith) (omega arith)) (omega arith))
+-- no times reach nothing, whether there is a number or not
+pub reached-none : (n : ℕ) (number : Times) → n ≡ 0 → reached (times n) number ≡ false
+reached-none n number z = go (leb 1 (number .0)) refl
+  where
+    go : (t : Bool) → leb 1 (number .0) ≡ t → reached (times n) number ≡ false
+    go true e =
+        let low : 1 ≤ number .0 = leb-true _ _ e in
+        and-no-right (leb 1 (number .0)) (leb (number .0) n) (lt-leb (number .0) n (omega arith))
+    go false e = and-no (leb 1 (number .0)) (leb (number .0) n) e
 
 -- ---- general laws: the group after a join
 module _ (a b : ℕ) (apart : a ≡ b → ⊥) where
@@ -191,13 +194,13 @@ module _ (a b : ℕ) (apart : a ≡ b → ⊥) where
 -- ---- the tables after the join
 module _ (a b : ℕ) (t t′ : Tables) (j : Joined a b t t′) (some-a : 1 ≤ a) (apart : a ≡ b → ⊥) where
   account-joined : (n : ℕ) → accountOf t′ n ≡ accountOf t n
-  unfolding accountOf
+  unfolding accountOf accountPlace
   account-joined n =
       ap (first (λ k. eqb (t′ .account k .number) n)) (j .accounts)
       ∙ first-cong _ _ (t .accounts) (λ k l. ap (λ (m : ℕ). eqb m n) (j .number k))
 
   contract-joined : (n : ℕ) → contractOf t′ n ≡ contractOf t n
-  unfolding contractOf
+  unfolding contractOf contractPlace
   contract-joined n =
       ap (first (λ k. eqb (t′ .contract k .id) n)) (j .contracts)
       ∙ first-cong _ _ (t .contracts) (λ k l. ap (λ (e : Contract). eqb (e .id) n) (j .contract k))
@@ -222,13 +225,13 @@ module _ (a b : ℕ) (t t′ : Tables) (j : Joined a b t t′) (some-a : 1 ≤ a
       rw (has-account-joined n, account-joined n, j .group (accountOf t n))
       (joined-pick (hasAccount t n) (t .account (accountOf t n) .group))
 
-  pub fault-joined : (r : Record) → tableFault t′ r ≡ tableFault t r
-  unfolding tableFault
+  pub fault-joined : (r : Record) → fieldsFault t′ r ≡ fieldsFault t r
+  unfolding fieldsFault
   fault-joined r =
-      rw (has-contract-joined (r .contract), has-account-joined (r .first), has-account-joined (r .second), j .rulebook) refl
+      rw (has-contract-joined (r .contract), has-account-joined (r .first), has-account-joined (r .second), j .text) refl
 
   pub member-other : (g : ℕ) → (g ≡ a → ⊥) → (g ≡ b → ⊥) → memberOn t′ g ≡ memberOn t g
-  unfolding memberOn
+  unfolding memberOn hasMember
   member-other g na nb =
       ap (some (λ k. eqb (t′ .account k .group) g && eqb (t′ .account k .kind) 2)) (j .accounts)
       ∙ some-cong _ _ (t .accounts)
@@ -236,7 +239,7 @@ module _ (a b : ℕ) (t t′ : Tables) (j : Joined a b t t′) (some-a : 1 ≤ a
 
   pub family-joined : (place : ℕ) → familyOf t′ place ≡ familyOf t place
   unfolding familyOf
-  family-joined place = rw (j .rulebook, j .contract place) refl
+  family-joined place = rw (j .text, j .contract place) refl
 
   -- ---- a record
   module _ (r : Record) where
@@ -251,25 +254,25 @@ module _ (a b : ℕ) (t t′ : Tables) (j : Joined a b t t′) (some-a : 1 ≤ a
 
     -- what it counts for, were these the groups of its two accounts
     abbrev planned : (g h : ℕ) → Plan
-    planned g h = planFor (t .rulebook) (t .contract place-of) r place-of g h
+    planned g h = planFor (t .text) (t .contract place-of) r place-of g h
 
     plan-joined : planOf t′ r ≡ planned (joined a b one) (joined a b two)
     unfolding planOf
     plan-joined =
-        rw (contract-joined (r .contract), group-joined (r .first), group-joined (r .second), j .contract place-of, j .rulebook) refl
+        rw (contract-joined (r .contract), group-joined (r .first), group-joined (r .second), j .contract place-of, j .text) refl
 
     abbrev trade : Bool
     trade = eqb (r .sort) 1
 
     -- the first order, and the second, is not exempt as a self-trade
     abbrev free1 : Bool
-    free1 = not (exempt1 (t .rulebook) (t .contract place-of) r 1)
+    free1 = not (exempt1 (t .text) (t .contract place-of) r 1)
 
     abbrev free2 : Bool
-    free2 = not (exempt2 (t .rulebook) (t .contract place-of) r 1)
+    free2 = not (exempt2 (t .text) (t .contract place-of) r 1)
 
-    self-counts : (g h : ℕ) → counted (planned g h) 1 ≡ trade && (eqb g h && free1 && free2)
-    unfolding counted planFor
+    self-counts : (g h : ℕ) → countsAs (planned g h) 1 ≡ trade && (eqb g h && free1 && free2)
+    unfolding countsAs planFor
     self-counts g h = last-no (trade && (eqb g h && free1 && free2))
       where
         last-no : (t : Bool) → t || false || false ≡ t
@@ -277,29 +280,29 @@ module _ (a b : ℕ) (t t′ : Tables) (j : Joined a b t t′) (some-a : 1 ≤ a
         last-no false = refl
 
     -- a record counts as a cancel whatever the groups
-    cancel-counts : (g h g′ h′ k : ℕ) → (k ≡ 1 → ⊥) → counted (planned g h) k ≡ counted (planned g′ h′) k
-    unfolding counted planFor
+    cancel-counts : (g h g′ h′ k : ℕ) → (k ≡ 1 → ⊥) → countsAs (planned g h) k ≡ countsAs (planned g′ h′) k
+    unfolding countsAs planFor
     cancel-counts g h g′ h′ k n = rw (ne-eqb k 1 n) refl
 
     -- of the groups, only whether they are one matters
-    pair-counts : (g h g′ h′ k : ℕ) → eqb g h ≡ eqb g′ h′ → counted (planned g h) k ≡ counted (planned g′ h′) k
-    unfolding counted planFor
+    pair-counts : (g h g′ h′ k : ℕ) → eqb g h ≡ eqb g′ h′ → countsAs (planned g h) k ≡ countsAs (planned g′ h′) k
+    unfolding countsAs planFor
     pair-counts g h g′ h′ k e = rw e refl
 
-    counts : (g k place : ℕ) → countsFor t r g k place ≡ counted (planned one two) k && eqb one g && eqb place-of place
+    counts : (g k place : ℕ) → countsFor t r g k place ≡ countsAs (planned one two) k && eqb one g && eqb place-of place
     unfolding countsFor planOf planFor
     counts g k place = refl
 
     counts-joined : (g k place : ℕ)
-        → countsFor t′ r g k place ≡ counted (planned (joined a b one) (joined a b two)) k && eqb (joined a b one) g && eqb place-of place
+        → countsFor t′ r g k place ≡ countsAs (planned (joined a b one) (joined a b two)) k && eqb (joined a b one) g && eqb place-of place
     unfolding countsFor planFor
-    counts-joined g k place = ap (λ (p : Plan). counted p k && eqb (p .group) g && eqb (p .place) place) plan-joined
+    counts-joined g k place = ap (λ (p : Plan). countsAs p k && eqb (p .group) g && eqb (p .place) place) plan-joined
 
     cancels-add : (k place : ℕ) → (k ≡ 1 → ⊥)
         → pick (countsFor t′ r b k place) 1 0 ≡ pick (countsFor t r a k place) 1 0 + pick (countsFor t r b k place) 1 0
     cancels-add k place n =
         rw (counts-joined b k place, counts a k place, counts b k place, cancel-counts (joined a b one) (joined a b two) one two k n)
-        (middle-two (counted (planned one two) k) (eqb (joined a b one) b) (eqb one a) (eqb one b) (eqb place-of place) (join-b a b apart one) (not-both one a b apart))
+        (middle-two (countsAs (planned one two) k) (eqb (joined a b one) b) (eqb one a) (eqb one b) (eqb place-of place) (join-b a b apart one) (not-both one a b apart))
 
     selfs-add : (place : ℕ)
         → pick (countsFor t′ r b 1 place) 1 0
@@ -319,7 +322,7 @@ module _ (a b : ℕ) (t t′ : Tables) (j : Joined a b t t′) (some-a : 1 ≤ a
         ∙ sym (counts g k place)
 
     counts-none : (k place : ℕ) → countsFor t′ r a k place ≡ false
-    counts-none k place = counts-joined a k place ∙ middle-no (counted (planned (joined a b one) (joined a b two)) k) (eqb (joined a b one) a) (eqb place-of place) (join-a a b apart one)
+    counts-none k place = counts-joined a k place ∙ middle-no (countsAs (planned (joined a b one) (joined a b two)) k) (eqb (joined a b one) a) (eqb place-of place) (join-a a b apart one)
 
   -- ---- the times
   pub times-added : (rs : List Record) (k place : ℕ) → (k ≡ 1 → ⊥) → timesOf t′ rs b k place ≡ timesOf t rs a k place + timesOf t rs b k place
@@ -350,10 +353,11 @@ module _ (a b : ℕ) (t t′ : Tables) (j : Joined a b t t′) (some-a : 1 ≤ a
 
   -- ---- the offences
   reaches-is : (rs : List Record) (g k family place : ℕ)
-      → reachesOn t′ rs g k family place ≡ eqb (familyOf t place) family && reached (times (timesOf t′ rs g k place)) (enough (t .rulebook) k)
+      → reachesOn t′ rs g k family place ≡ eqb (familyOf t place) family && reached (times (timesOf t′ rs g k place)) (enough (t .text) k)
   unfolding reachesOn
   reaches-is rs g k family place =
-      ap₂ (λ (f rulebook : ℕ). eqb f family && reached (times (timesOf t′ rs g k place)) (enough rulebook k)) (family-joined place) (j .rulebook)
+      ap₂ (λ (f : ℕ) (text : Text). eqb f family && reached (times (timesOf t′ rs g k place)) (enough text k))
+      (family-joined place) (j .text)
 
   -- a group of no fewer times reaches the number too
   reaches-more : (rs : List Record) (g g′ k family place : ℕ) → timesOf t rs g k place ≤ timesOf t′ rs g′ k place
@@ -361,21 +365,23 @@ module _ (a b : ℕ) (t t′ : Tables) (j : Joined a b t t′) (some-a : 1 ≤ a
   unfolding reachesOn
   reaches-more rs g g′ k family place up e =
       let same = and-left (eqb (familyOf t place) family) _ e in
-      let low : enough (t .rulebook) k .0 ≤ timesOf t rs g k place = leb-true _ _ (and-right (eqb (familyOf t place) family) _ e) in
-      reaches-is rs g′ k family place ∙ and-yes (eqb (familyOf t place) family) _ same (le-leb (enough (t .rulebook) k .0) (timesOf t′ rs g′ k place) (omega arith))
+      let enough-before = and-right (eqb (familyOf t place) family) _ e in
+      reaches-is rs g′ k family place
+      ∙ and-yes (eqb (familyOf t place) family) _ same
+      (reached-more (timesOf t rs g k place) (timesOf t′ rs g′ k place) (enough (t .text) k) up enough-before)
 
   reaches-other : (rs : List Record) (g k family place : ℕ) → (g ≡ a → ⊥) → (g ≡ b → ⊥)
       → reachesOn t′ rs g k family place ≡ reachesOn t rs g k family place
   unfolding reachesOn
   reaches-other rs g k family place na nb =
       reaches-is rs g k family place
-      ∙ ap (λ (n : ℕ). eqb (familyOf t place) family && reached (times n) (enough (t .rulebook) k)) (times-other rs g k place na nb)
+      ∙ ap (λ (n : ℕ). eqb (familyOf t place) family && reached (times n) (enough (t .text) k)) (times-other rs g k place na nb)
 
   reaches-none : (rs : List Record) (k family place : ℕ) → reachesOn t′ rs a k family place ≡ false
   reaches-none rs k family place =
       reaches-is rs a k family place
       ∙ and-no-right (eqb (familyOf t place) family) _
-      (lt-leb (enough (t .rulebook) k .0) (timesOf t′ rs a k place) (omega (arith, times-none rs k place, enough-some (t .rulebook) k)))
+      (reached-none (timesOf t′ rs a k place) (enough (t .text) k) (times-none rs k place))
 
   -- all places of the contracts are as they were
   offence-is : (rs : List Record) (g k family : ℕ) → offence t′ rs g k family ≡ some (reachesOn t′ rs g k family) (t .contracts)

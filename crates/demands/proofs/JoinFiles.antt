@@ -10,9 +10,10 @@ use lib.Seq.{getD-take, getD-drop, ext-getD}
 use Rattle.wire.specs.Choice.{pick}
 use Rattle.daylog.specs.declared.header.Header.{Header}
 use Rattle.daylog.specs.Header.{headerOf, logFault}
+use Rattle.daylog.specs.Records.{recordLength}
+use Rattle.daylog.specs.Rows.{frontSize, front, rowSize, pieces, rowsOf}
 use Rattle.daylog.proofs.FaultLaws.{log-sound}
 use Rattle.demands.specs.Join.{joined, groupByte, byPlace, joinLog}
-use Rattle.demands.specs.Logs.{frontSize, front, pieces, rowsOf}
 use Rattle.demands.proofs.JoinTables.{header-same, join-length, past, header-stands}
 
 -- ---- the front of a file has its header
@@ -60,5 +61,7 @@ module _ (a b : ℕ) (log : List ℕ) (some : 1 ≤ a) where
       let n = frontSize log in
       let whole : length (front log) ≡ 16 + 8 * headerOf log .contracts + 8 * headerOf log .accounts =
       rw front-head at (log-sound (front log) e .whole) in
-      ap₂ pieces (join-length a b log some)
+      let j = joinLog a b log in
+      ap (λ (h : Header). pieces (recordLength (h .version)) (length j) (drop (frontSize j) j)) (header-stands a b log some)
+      ∙ ap₂ (pieces (rowSize log)) (join-length a b log some)
       (ap (λ (m : ℕ). drop m (joinLog a b log)) size-joined ∙ after-joined n (omega (arith, whole, length-take n log)))

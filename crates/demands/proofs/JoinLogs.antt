@@ -10,18 +10,20 @@ use lib.ListN.{length}
 use Rattle.wire.specs.Choice.{pick, orElse}
 use Rattle.wire.proofs.ChoiceLaws.{or-none, or-after}
 use Rattle.daylog.specs.declared.record.Record.{Record}
-use Rattle.daylog.specs.Header.{logFault}
-use Rattle.daylog.specs.Records.{recordOf}
-use Rattle.desk.specs.Cells.{cells}
+use Rattle.daylog.specs.declared.header.Header.{Header}
+use Rattle.daylog.specs.Header.{headerOf, logFault}
+use Rattle.daylog.specs.Records.{recordLength, recordOf}
+use Rattle.daylog.specs.Rows.{front, rowSize, rowsOf, isEnd}
 use Rattle.desk.specs.Open.{handedFault}
 use Rattle.desk.specs.End.{rowFault}
 use Rattle.demands.specs.Days.{PastDay}
-use Rattle.demands.specs.Paper.{dayIn}
-use Rattle.demands.specs.Logs.{front, rowsOf, isEnd, recordsIn, followFault, rowsNumber, logNumber, dayBook, ruledFile, ruledLogs}
+use Rattle.demands.specs.Paper.{dayIn, takeNumber}
+use Rattle.demands.specs.Logs.{clerkCounts, recordsIn, followFault, rowsNumber, logNumber, dayBook, ruledFile, ruledLogs}
 use Rattle.demands.specs.Demand2.{History, loggedDay, logDays, lastFile}
 use Rattle.demands.specs.Join.{joinLog}
 use Rattle.demands.specs.Demand3.{Two}
 use Rattle.demands.proofs.CallLaws.{handed-parts}
+use Rattle.demands.proofs.JoinTables.{header-stands}
 use Rattle.demands.proofs.JoinFiles.{front-joined, rows-joined}
 use Rattle.demands.proofs.JoinYears.{Years, book-same, years-day}
 use Rattle.demands.proofs.JoinRun.{open-same, take-same}
@@ -38,27 +40,32 @@ years-pick false days₁ days days₁′ days′ book₁ book book₁′ book′
 
 module _ (a b : ℕ) (two : Two a b) where
   -- ---- the rows against tables without fault
-  rows-same : (log : List ℕ) → logFault log ≡ 0 → (rs : List Record) (rows : List (List ℕ)) → rowsNumber (joinLog a b log) rs rows ≡ rowsNumber log rs rows
+  rows-same : (log : List ℕ) → logFault log ≡ 0 → (rs : List Record) (rows : List (List ℕ))
+      → rowsNumber (joinLog a b log) rs rows ≡ rowsNumber log rs rows
   unfolding rowsNumber rowFault
   rows-same log e rs [] = refl
   rows-same log e rs (row ∷ more) =
-      ap₂ (λ (m n : ℕ). pick (not (eqb (length row) 20)) 1 (pick (isEnd row) (orElse (rowFault (dayIn log rs) row) (followFault more)) (orElse m n)))
+      let end = orElse (rowFault (dayIn log rs) row) (followFault more) in
+      ap (λ (x : Header). pick (not (eqb (length row) (recordLength (x .version)))) 1 (pick (isEnd row) end
+      (orElse (takeNumber (joinLog a b log) rs row) (rowsNumber (joinLog a b log) (recordOf row ∷ rs) more))))
+      (header-stands a b log (two .first-a))
+      ∙ ap₂ (λ (m n : ℕ). pick (not (eqb (length row) (rowSize log))) 1 (pick (isEnd row) end (orElse m n)))
       (take-same a b two log rs row e) (rows-same log e (recordOf row ∷ rs) more)
 
   -- ---- one log, on the files of the two years so far
   module _ (from from′ : List ℕ) (days days′ : List PastDay) (book book′ : List ℕ) (s : Years a b (on from days) (on from′ days′) book book′) (log : List ℕ) where
-    handed-same : handedFault (front (joinLog a b log)) book′ cells ≡ handedFault (front log) book cells
+    handed-same : handedFault (front (joinLog a b log)) book′ clerkCounts ≡ handedFault (front log) book clerkCounts
     handed-same =
-        ap (λ (l : List ℕ). handedFault l book′ cells) (front-joined a b log (two .first-a))
-        ∙ open-same a b two (front log) book book′ cells cells (book-same a b two _ _ book book′ s) refl
+        ap (λ (l : List ℕ). handedFault l book′ clerkCounts) (front-joined a b log (two .first-a))
+        ∙ open-same a b two (front log) book book′ clerkCounts clerkCounts (book-same a b two _ _ book book′ s) refl
 
     number-same : logNumber book′ (joinLog a b log) ≡ logNumber book log
     unfolding logNumber
     number-same =
         ap (λ (n : ℕ). orElse n (rowsNumber (front (joinLog a b log)) [] (rowsOf (joinLog a b log)))) handed-same
-        ∙ or-after (handedFault (front log) book cells) _ _
+        ∙ or-after (handedFault (front log) book clerkCounts) _ _
         (λ z.
-        let e = handed-parts (front log) book cells z .0 in
+        let e = handed-parts (front log) book clerkCounts z .0 in
         ap₂ (λ (l : List ℕ) (rows : List (List ℕ)). rowsNumber l [] rows) (front-joined a b log (two .first-a)) (rows-joined a b log (two .first-a) e)
         ∙ rows-same (front log) e [] (rowsOf log))
 
@@ -67,7 +74,7 @@ module _ (a b : ℕ) (two : Two a b) where
         → Years a b (on from (loggedDay log ∷ days)) (on from′ (loggedDay (joinLog a b log) ∷ days′)) (dayBook book log) (dayBook book′ (joinLog a b log))
     unfolding logNumber
     day-more z =
-        let q = handed-parts (front log) book cells (or-none (handedFault (front log) book cells) _ z .0) in
+        let q = handed-parts (front log) book clerkCounts (or-none (handedFault (front log) book clerkCounts) _ z .0) in
         rw (front-joined a b log (two .first-a), rows-joined a b log (two .first-a) (q .0))
         (years-day a b two _ _ book book′ s (front log) (recordsIn [] (rowsOf log)) (q .0) (q .1))
 

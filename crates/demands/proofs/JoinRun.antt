@@ -3,29 +3,37 @@
 use mathlib.Core.Path.{_≡_, refl, sym, ap, ap₂, _∙_, subst}
 use mathlib.Core.Bool.{Bool, true, false, not}
 use mathlib.Core.List.{List, [], _∷_}
-use Prim.Native.Nat.{ℕ, _*_, _≤_}
+use Prim.Native.Nat.{ℕ, _≤_}
 use native.Mathlib.Omega.{arith}
 use borrow.Author.Tests.{eqb-true, eqb-false, eq-eqb, le-ltb}
-use lib.Dec.{leb, ltb, eqb, lit<}
+use lib.Dec.{leb, eqb, lit<}
 use lib.ListN.{length}
 use Rattle.wire.specs.Choice.{pick, orElse}
 use Rattle.wire.proofs.ChoiceLaws.{pick-yes, pick-no, pick-zero, or-none, and-left, and-right}
-use Rattle.book.specs.Fresh.{freshFault, freshBook}
-use Rattle.book.specs.Ask.{inRange, askFault}
+use Rattle.rules.specs.declared.kinds.Kinds.{Kinds}
+use Rattle.rules.specs.Kinds.{mostKinds}
+use Rattle.rules.proofs.KindLaws.{kinds-most}
+use Rattle.book.specs.Shape.{dayShape, rulebookOf}
+use Rattle.book.specs.Places.{cells}
+use Rattle.book.specs.Ask.{inRange, askFaultAs}
 use Rattle.book.specs.Sound.{sound}
+use Rattle.book.specs.Fits.{bookFault}
 use Rattle.daylog.specs.declared.header.Header.{Header}
 use Rattle.daylog.specs.declared.record.Record.{Record}
 use Rattle.daylog.specs.Header.{headerOf, logFault}
-use Rattle.daylog.specs.Records.{recordOf}
+use Rattle.daylog.specs.Records.{recordLength, recordOf}
+use Rattle.daylog.specs.Rows.{rowSize}
 use Rattle.daylog.specs.Tables.{tablesOf}
-use Rattle.desk.specs.Open.{bookFault, roomFault, handedFault}
-use Rattle.desk.specs.Findings.{foundCount}
+use Rattle.verdict.specs.Settle.{shortFault}
+use Rattle.desk.specs.Books.{freshFault, askFault}
+use Rattle.desk.specs.Open.{kindsFor, fewFault, handedFault}
 use Rattle.desk.specs.End.{rowFault}
-use Rattle.desk.proofs.OpenLaws.{room-there}
-use Rattle.demands.specs.Counts.{timesOn}
+use Rattle.desk.proofs.CallLaws.{room-there}
+use Rattle.demands.specs.Counts.{timesOn, dayVerdict}
 use Rattle.demands.specs.Days.{blank}
-use Rattle.demands.specs.Calls.{Step, makeBook, openDay, endDay}
-use Rattle.demands.specs.Paper.{Course, idle, during, Paper, dayIn, takeNumber, endRefusal, rule, rules, numbersOn, paperAfter}
+use Rattle.demands.specs.Calls.{Step, makeBook, openDay, endDay, fullRoom}
+use Rattle.demands.specs.Paper.{Course, idle, during, Paper, dayIn, takeNumber, endRefusal, freshBook, rule, rules, numbersOn, paperAfter}
+use Rattle.demands.specs.Logs.{clerkCounts}
 use Rattle.demands.specs.Lent.{latest, lastOpened}
 use Rattle.demands.specs.Demand2.{History, recorded, history}
 use Rattle.demands.specs.Join.{joinLog}
@@ -37,7 +45,7 @@ use Rattle.demands.proofs.PaperLaws.{refused-leaves, after-open, after-
 use Rattle.demands.proofs.Demand2.{Holds, holds-fresh}
 use Rattle.demands.proofs.JoinTables.{joined-log}
 use Rattle.demands.proofs.JoinCounts.{fault-joined}
-use Rattle.demands.proofs.JoinYears.{Years, years-fresh, lengths-same, sound-same, book-same, years-day}
+use Rattle.demands.proofs.JoinYears.{Years, years-fresh, rulebook-same, lengths-same, sound-same, book-same, Fitting, years-day}
 
 -- a fresh book begins a new history
 made-history : (rulebook len : ℕ) (h : History) → freshFault len rulebook ≡ 0
@@ -51,13 +59,13 @@ AcceptedBy p (c ∷ cs) = (refusal p (p .course) c ≡ 0) × AcceptedBy (rule p 
 
 -- the two ways in which a run is fair, on the papers
 pub data Fits (p p′ : Paper) (cs : List Step) : Type 0 where
-  accepted : AcceptedBy p cs → 12288 ≤ p′ .room → Fits p p′ cs
-  full-size : 49152 ≤ length (p .out) → allRoomy cs ≡ true → p′ .room ≡ p .room → Fits p p′ cs
+  accepted : AcceptedBy p cs → clerkCounts ≤ p′ .len → Fits p p′ cs
+  full-size : fullRoom ≤ length (p .out) → allRoomy cs ≡ true → p′ .len ≡ p .len → Fits p p′ cs
 
 -- and of one step
 data Fit (p p′ : Paper) (c : Step) : Type 0 where
-  accepted : refusal p (p .course) c ≡ 0 → 12288 ≤ p′ .room → Fit p p′ c
-  full-size : 49152 ≤ length (p .out) → p′ .room ≡ p .room → Fit p p′ c
+  accepted : refusal p (p .course) c ≡ 0 → clerkCounts ≤ p′ .len → Fit p p′ c
+  full-size : fullRoom ≤ length (p .out) → p′ .len ≡ p .len → Fit p p′ c
 
 fit-first : {p p′ : Paper} {c : Step} {cs : List Step} → Fits p p′ (c ∷ cs) → Fit p p′ c
 unfolding AcceptedBy
@@ -91,73 +99,97 @@ move {a} {b} {p} {q} {p′} {q′} {h} {i} {h′} {i′} e e′ f f′ s =
 module _ (a b : ℕ) (two : Two a b) where
   -- ---- the numbers
   -- opening: the tables' fault is the same, so is the book's, and there is room in both or in neither
-  pub open-same : (log book book′ : List ℕ) (room room′ : ℕ) → ((x : Header) → bookFault x book′ ≡ bookFault x book) → roomFault room′ ≡ roomFault room
-      → handedFault (joinLog a b log) book′ room′ ≡ handedFault log book room
+  pub open-same : (log book book′ : List ℕ) (len len′ : ℕ)
+      → ((rulebook date : ℕ) → bookFault rulebook date book′ ≡ bookFault rulebook date book)
+      → fewFault (kindsFor (headerOf log)) len′ ≡ fewFault (kindsFor (headerOf log)) len
+      → handedFault (joinLog a b log) book′ len′ ≡ handedFault log book len
   unfolding handedFault
-  open-same log book book′ room room′ same n =
+  open-same log book book′ len len′ same n =
       let j = joined-log a b log (two .first-a) (two .last-a) (two .first-b) (two .last-b) in
-      ap₂ orElse (j .fault) (ap₂ orElse (ap (λ (x : Header). bookFault x book′) (j .head) ∙ same (headerOf log)) n)
+      ap₂ orElse (j .fault)
+      (ap₂ orElse (ap (λ (x : Header). bookFault (x .rulebook) (x .date) book′) (j .head) ∙ same (headerOf log .rulebook) (headerOf log .date))
+      (ap (λ (x : Header). fewFault (kindsFor x) len′) (j .head) ∙ n))
 
-  room-same : {p p′ : Paper} {log : List ℕ} → Fit p p′ (openDay log) → p .course ≡ idle → roomFault (p′ .room) ≡ roomFault (p .room)
-  unfolding refusal roomFault
-  room-same {p} {p′} {log} (accepted e n) i =
-      let z : handedFault log (p .book) (p .room) ≡ 0 = subst (λ (x : Course). refusal p x (openDay log) ≡ 0) i e in
-      sym (pick-no _ _ _ _ (le-ltb (p′ .room) 12288 n) refl) ∙ pick-no _ _ _ _ (le-ltb (p .room) 12288 (room-there log (p .book) (p .room) z)) refl
-  room-same (full-size h n) i = ap (λ (x : ℕ). pick (ltb x 12288) 16 0) n
+  -- counts for the most kinds are enough
+  not-few : (h : Header) (len : ℕ) → cells (kindsFor h) ≤ len → fewFault (kindsFor h) len ≡ 0
+  unfolding fewFault
+  not-few h len n = sym (pick-no _ _ _ _ (le-ltb len (cells (kindsFor h)) n) refl)
+
+  few-same : {p p′ : Paper} {log : List ℕ} → Fit p p′ (openDay log) → p .course ≡ idle
+      → fewFault (kindsFor (headerOf log)) (p′ .len) ≡ fewFault (kindsFor (headerOf log)) (p .len)
+  unfolding refusal
+  few-same {p} {p′} {log} (accepted e n) i =
+      let h = headerOf log in
+      let z : handedFault log (p .book) (p .len) ≡ 0 = subst (λ (x : Course). refusal p x (openDay log) ≡ 0) i e in
+      not-few h (p′ .len) (omega (arith, n, kinds-most (h .rulebook)))
+      ∙ sym (not-few h (p .len) (room-there log (p .book) (p .len) z))
+  few-same {log = log} (full-size h n) i = ap (fewFault (kindsFor (headerOf log))) n
 
   -- taking: by the tables alone
-  pub take-same : (log : List ℕ) (rs : List Record) (row : List ℕ) → logFault log ≡ 0 → takeNumber (joinLog a b log) rs row ≡ takeNumber log rs row
+  pub take-same : (log : List ℕ) (rs : List Record) (row : List ℕ) → logFault log ≡ 0
+      → takeNumber (joinLog a b log) rs row ≡ takeNumber log rs row
   unfolding takeNumber
   take-same log rs row e =
       let j = joined-log a b log (two .first-a) (two .last-a) (two .first-b) (two .last-b) in
-      ap (λ (n : ℕ). pick (not (eqb (length row) 20)) 1 (orElse n (pick (leb 1000000 (length rs)) 14 0)))
+      ap₂ (λ (x : Header) (n : ℕ).
+      pick (not (eqb (length row) (recordLength (x .version)))) 1 (orElse n (pick (leb 1000000 (length rs)) 14 0))) (j .head)
       (fault-joined a b (tablesOf log) (tablesOf (joinLog a b log)) (j .tables e) (two .first-a) (two .differ) (recordOf row))
 
   -- ending: the record's fault and the book's are the same, and both have room for the findings
   abbrev short : (log : List ℕ) (rs : List Record) → ℕ → ℕ
-  short log rs room = pick (ltb room (8 * foundCount (tablesOf log) (timesOn (tablesOf log) rs))) 20 0
+  short log rs room = shortFault (dayVerdict (tablesOf log) rs) room
 
-  not-short : (log : List ℕ) (rs : List Record) (room : ℕ) → 49152 ≤ room → short log rs room ≡ 0
-  not-short log rs room h = sym (pick-no _ _ _ _ (le-ltb room _ (found-fits (tablesOf log) (timesOn (tablesOf log) rs) room h)) refl)
+  not-short : (log : List ℕ) (rs : List Record) (room : ℕ) → fullRoom ≤ room → short log rs room ≡ 0
+  unfolding shortFault
+  not-short log rs room h =
+      sym (pick-no _ _ _ _ (le-ltb room _ (found-fits (tablesOf log) (timesOn (tablesOf log) rs) room h)) refl)
 
-  end-same : (log : List ℕ) (rs : List Record) (row book book′ : List ℕ) (room room′ : ℕ) → ((x : Header) → bookFault x book′ ≡ bookFault x book)
-      → short log rs room ≡ 0 → 49152 ≤ room′ → endRefusal (joinLog a b log) rs row book′ room′ ≡ endRefusal log rs row book room
+  end-same : (log : List ℕ) (rs : List Record) (row book book′ : List ℕ) (room room′ : ℕ)
+      → ((rulebook date : ℕ) → bookFault rulebook date book′ ≡ bookFault rulebook date book)
+      → short log rs room ≡ 0 → fullRoom ≤ room′ → endRefusal (joinLog a b log) rs row book′ room′ ≡ endRefusal log rs row book room
   unfolding endRefusal rowFault
   end-same log rs row book book′ room room′ same fits full =
       let j = joined-log a b log (two .first-a) (two .last-a) (two .first-b) (two .last-b) in
-      ap (λ (n : ℕ). pick (not (eqb (length row) 20)) 1 (orElse (rowFault (dayIn log rs) row) n))
-      (ap₂ orElse (ap (λ (x : Header). bookFault x book′) (j .head) ∙ same (headerOf log)) (not-short (joinLog a b log) rs room′ full ∙ sym fits))
+      ap₂ (λ (x : Header) (n : ℕ).
+      pick (not (eqb (length row) (recordLength (x .version)))) 1 (orElse (rowFault (dayIn log rs) row) n)) (j .head)
+      (ap₂ orElse (ap (λ (x : Header). bookFault (x .rulebook) (x .date) book′) (j .head) ∙ same (headerOf log .rulebook) (headerOf log .date))
+      (not-short (joinLog a b log) rs room′ full ∙ sym fits))
 
   end-fits : (log : List ℕ) (rs : List Record) (row book : List ℕ) (room : ℕ) → endRefusal log rs row book room ≡ 0 → short log rs room ≡ 0
   unfolding endRefusal
   end-fits log rs row book room e =
       let q = or-none (rowFault (dayIn log rs) row) _ (pick-zero _ 1 _ (lit< tt) e .1) in
-      or-none (bookFault (headerOf log) book) _ (q .1) .1
+      or-none (bookFault (headerOf log .rulebook) (headerOf log .date) book) _ (q .1) .1
 
   end-room : {p p′ : Paper} (log : List ℕ) (rs : List Record) (row : List ℕ) → Fit p p′ (endDay row) → p .course ≡ during log rs → short log rs (length (p .out)) ≡ 0
   unfolding refusal
   end-room {p} log rs row (accepted e n) i = end-fits log rs row (p .book) (length (p .out)) (subst (λ (x : Course). refusal p x (endDay row) ≡ 0) i e)
   end-room {p} log rs row (full-size h n) i = not-short log rs (length (p .out)) h
 
-  end-allows : (log : List ℕ) (rs : List Record) (row book : List ℕ) (room : ℕ) → endRefusal log rs row book room ≡ 0 → bookFault (headerOf log) book ≡ 0
+  end-allows : (log : List ℕ) (rs : List Record) (row book : List ℕ) (room : ℕ) → endRefusal log rs row book room ≡ 0
+      → bookFault (headerOf log .rulebook) (headerOf log .date) book ≡ 0
   unfolding endRefusal
   end-allows log rs row book room e =
       let q = or-none (rowFault (dayIn log rs) row) _ (pick-zero _ 1 _ (lit< tt) e .1) in
-      or-none (bookFault (headerOf log) book) _ (q .1) .0
+      or-none (bookFault (headerOf log .rulebook) (headerOf log .date) book) _ (q .1) .0
 
-  ask-same : (book book′ : List ℕ) (group kind family : ℕ) → sound book′ ≡ sound book → askFault book′ group kind family ≡ askFault book group kind family
-  unfolding askFault
-  ask-same book book′ group kind family e = ap (λ (t : Bool). pick (not t) 17 (pick (not (inRange group kind family)) 21 0)) e
+  ask-same : (book book′ : List ℕ) (group kind family : ℕ) → sound book′ ≡ sound book → rulebookOf book′ ≡ rulebookOf book
+      → askFault book′ group kind family ≡ askFault book group kind family
+  unfolding askFaultAs
+  ask-same book book′ group kind family e q =
+      ap₂ (λ (t : Bool) (r : ℕ). pick (not t) 17 (pick (not (inRange (dayShape r .kinds) group kind family)) 21 0)) e q
 
-  module _ (book out book′ out′ : List ℕ) (room room′ : ℕ) (h h′ : History) (s : Years a b h h′ book book′) where
+  module _ (book out book′ out′ : List ℕ) (len len′ : ℕ) (h h′ : History) (s : Years a b h h′ book book′) where
     same-number : (course course′ : Course) (c c′ : Step) → Twin a b course course′ → StepJoined a b c c′
-        → Fit (paper course book out room) (paper course′ book′ out′ room′) c → 49152 ≤ length out′
-        → refusal (paper course′ book′ out′ room′) course′ c′ ≡ refusal (paper course book out room) course c
+        → Fit (paper course book out len) (paper course′ book′ out′ len′) c → fullRoom ≤ length out′
+        → refusal (paper course′ book′ out′ len′) course′ c′ ≡ refusal (paper course book out len) course c
     unfolding refusal
     same-number course course′ _ _ t (makes {rulebook}) f l = ap (λ (n : ℕ). freshFault n rulebook) (lengths-same a b two h h′ book book′ s)
-    same-number course course′ _ _ t (asks {group} {kind} {family}) f l = ask-same book book′ group kind family (sound-same a b two h h′ book book′ s)
+    same-number course course′ _ _ t (asks {group} {kind} {family}) f l =
+        ask-same book book′ group kind family (sound-same a b two h h′ book book′ s) (rulebook-same a b two h h′ book book′ s)
     same-number course course′ _ _ t lends f l = refl
-    same-number _ _ _ _ both-idle (opens {log}) f l = open-same log book book′ room room′ (book-same a b two h h′ book book′ s) (room-same f refl)
+    same-number _ _ _ _ both-idle (opens {log}) f l =
+        open-same log book book′ len len′ (book-same a b two h h′ book book′ s) (few-same f refl)
     same-number _ _ _ _ both-idle takes f l = refl
     same-number _ _ _ _ both-idle ends f l = refl
     same-number _ _ _ _ both-idle abandons f l = refl
@@ -169,10 +201,10 @@ module _ (a b : ℕ) (two : Two a b) where
 
     -- ---- an accepted step leaves them side by side
     abbrev p : Course → Paper
-    p course = paper course book out room
+    p course = paper course book out len
 
     abbrev p′ : Course → Paper
-    p′ course = paper course book′ out′ room′
+    p′ course = paper course book′ out′ len′
 
     -- a fresh book
     fresh-beside : (course course′ : Course) (rulebook : ℕ) → Twin a b course course′ → freshFault (length book) rulebook ≡ 0 → freshFault (length book′) rulebook ≡ 0
@@ -207,7 +239,7 @@ module _ (a b : ℕ) (two : Two a b) where
     accepted-beside course course′ _ _ t asks e z = record { course = t; years = s }
     accepted-beside course course′ _ _ t lends e z = record { course = t; years = s }
     accepted-beside _ _ _ _ both-idle (opens {log}) e z =
-        move (after-open (p idle) log e) (after-open (p′ idle) (joinLog a b log) z) refl refl (record { course = both-open (handed-parts log book room e .0); years = s })
+        move (after-open (p idle) log e) (after-open (p′ idle) (joinLog a b log) z) refl refl (record { course = both-open (handed-parts log book len e .0); years = s })
     accepted-beside _ _ _ _ both-idle takes e z = absurd (omega arith)
     accepted-beside _ _ _ _ both-idle ends e z = absurd (omega arith)
     accepted-beside _ _ _ _ both-idle abandons e z = absurd (omega arith)
@@ -223,18 +255,18 @@ module _ (a b : ℕ) (two : Two a b) where
     number : refusal p′ (p′ .course) c′ ≡ refusal p (p .course) c
     after : Beside a b (rule p (p .course) c .after) (rule p′ (p′ .course) c′ .after) (recorded p (p .course) c h) (recorded p′ (p′ .course) c′ h′)
 
-  again : (p p′ : Paper) (h h′ : History) (c c′ : Step) → Beside a b p p′ h h′ → StepJoined a b c c′ → Fit p p′ c → 49152 ≤ length (p′ .out)
+  again : (p p′ : Paper) (h h′ : History) (c c′ : Step) → Beside a b p p′ h h′ → StepJoined a b c c′ → Fit p p′ c → fullRoom ≤ length (p′ .out)
       → Again p p′ h h′ c c′
   again p p′ h h′ c c′ s j f l = record { number = n; after = go (eqb (refusal p (p .course) c) 0) refl }
     where
       n : refusal p′ (p′ .course) c′ ≡ refusal p (p .course) c
-      n = same-number (p .book) (p .out) (p′ .book) (p′ .out) (p .room) (p′ .room) h h′ (s .years) (p .course) (p′ .course) c c′ (s .course) j f l
+      n = same-number (p .book) (p .out) (p′ .book) (p′ .out) (p .len) (p′ .len) h h′ (s .years) (p .course) (p′ .course) c c′ (s .course) j f l
 
       go : (t : Bool) → eqb (refusal p (p .course) c) 0 ≡ t
           → Beside a b (rule p (p .course) c .after) (rule p′ (p′ .course) c′ .after) (recorded p (p .course) c h) (recorded p′ (p′ .course) c′ h′)
       go true e =
           let z = eqb-true _ 0 e in
-          accepted-beside (p .book) (p .out) (p′ .book) (p′ .out) (p .room) (p′ .room) h h′ (s .years) (p .course) (p′ .course) c c′ (s .course) j z (n ∙ z)
+          accepted-beside (p .book) (p .out) (p′ .book) (p′ .out) (p .len) (p′ .len) h h′ (s .years) (p .course) (p′ .course) c c′ (s .course) j z (n ∙ z)
       go false e =
           let z = eqb-false _ 0 e in
           let q = refused-leaves p h (p .course) c z in
@@ -248,7 +280,7 @@ module _ (a b : ℕ) (two : Two a b) where
     pub opened : Twin a b (lastOpened p last cs) (lastOpened p′ last′ cs′)
 
   pub runs : (p p′ : Paper) (h h′ : History) (last last′ : Course) (cs cs′ : List Step) → Beside a b p p′ h h′ → Twin a b last last′ → StepsJoined a b cs cs′
-      → Fits p p′ cs → 49152 ≤ length (p′ .out) → allRoomy cs′ ≡ true → Runs p p′ h h′ last last′ cs cs′
+      → Fits p p′ cs → fullRoom ≤ length (p′ .out) → allRoomy cs′ ≡ true → Runs p p′ h h′ last last′ cs cs′
   unfolding numbersOn rules paperAfter history lastOpened allRoomy
   runs p p′ h h′ last last′ [] _ s t none f l m = record { numbers = refl; after = s; opened = t }
   runs p p′ h h′ last last′ (c ∷ cs) (c′ ∷ cs′) s t (more j js) f l m =

@@ -17,7 +17,7 @@ use Rattle.wire.proofs.ByteLaws.{le-cong}
 use Rattle.daylog.specs.Accounts.{accountAt, numberBefore, accountGoodAt, accountsGood}
 use Rattle.daylog.specs.Contracts.{contractAt}
 use Rattle.daylog.specs.Entries.{entries}
-use Rattle.daylog.specs.Header.{headerOf, markGood, contractsPart, accountsPart, tablesFault, headFault, logFault}
+use Rattle.daylog.specs.Header.{headerOf, markGood, contractsPart, accountsPart, entriesFault, headFault, logFault}
 use Rattle.daylog.specs.Tables.{tablesIn, tablesOf}
 use Rattle.daylog.proofs.FaultLaws.{log-sound}
 use Rattle.demands.specs.Join.{joined, accountsTo, groupByte, byPlace, joinLog, Joined}
@@ -182,7 +182,7 @@ module _ (a b : ℕ) (log : List ℕ) (some : 1 ≤ a) where
     tables-joined : Joined a b (tablesOf log) (tablesOf (joinLog a b log))
     unfolding tablesOf tablesIn
     tables-joined = rw header-stands (record {
-      rulebook = refl;
+      text = refl;
       contracts = ap entries contracts-stand;
       contract = λ k. ap (λ (s : List ℕ). contractAt s k) contracts-stand;
       accounts = entries-stand;
@@ -203,8 +203,8 @@ module _ (a b : ℕ) (log : List ℕ) (some : 1 ≤ a) where
         (λ k l. rw (before-stands k, number-stands k, group-joins whole k, kind-stands k, spare-stands k, joined-within a b (accountAt s k .group) some most low high))
         ∙ rw entries-stand
 
-    tables-same : tablesFault (headerOf log) (joinLog a b log) ≡ tablesFault (headerOf log) log
-    unfolding tablesFault
+    tables-same : entriesFault (headerOf log) (joinLog a b log) ≡ entriesFault (headerOf log) log
+    unfolding entriesFault
     tables-same =
         let h = headerOf log in
         let n = 16 + 8 * h .contracts + 8 * h .accounts in

@@ -13,17 +13,22 @@ use Rattle.wire.proofs.ChoiceLaws.{pick-yes, pick-no, or-else, or-first, flip-y
 use Rattle.daylog.specs.declared.record.Record.{Record}
 use Rattle.daylog.specs.Header.{headerOf}
 use Rattle.daylog.specs.Records.{recordOf}
+use Rattle.daylog.specs.Rows.{front, rowSize, rowsOf, isEnd}
 use Rattle.daylog.specs.Tables.{tablesOf}
-use Rattle.desk.specs.Cells.{cells}
-use Rattle.desk.specs.Open.{bookFault, handedFault}
-use Rattle.desk.specs.Findings.{findings, bookAfter}
+use Rattle.book.specs.Fits.{bookFault}
+use Rattle.verdict.specs.Verdict.{findings, bookAfter}
+use Rattle.verdict.specs.Settle.{shortFault}
+use Rattle.desk.specs.Open.{handedFault}
 use Rattle.desk.specs.End.{rowFault}
-use Rattle.demands.specs.Counts.{timesOn}
-use Rattle.demands.specs.Calls.{Step, openDay, takeRecord, endDay, numberIn, Desk, Given, Gives}
+use Rattle.demands.specs.Counts.{timesOn, dayVerdict}
+use Rattle.demands.specs.Calls.{Step, openDay, takeRecord, endDay, numberIn, Desk, Given, Gives, fullRoom}
 use Rattle.demands.specs.Paper.{idle, during, Paper, dayIn, takeNumber, endRefusal}
-use Rattle.demands.specs.Logs.{front, rowsOf, isEnd, Reads, stops, cut, takes, take-refused, end-refused, ends, follows, clerkDesk, Judges, open-refused, opened, fileAfter, recordsIn, followFault, rowsNumber, logNumber, dayFindings, ruledFile, Judged, printedOf, JudgesAll, none as no-log, next as one-log, ruledLogs}
+use Rattle.demands.specs.Logs.{Reads, stops, cut, takes, take-refused, end-refused, ends, follows}
+use Rattle.demands.specs.Logs.{clerkCounts, clerkDesk, Judges, open-refused, opened, fileAfter, recordsIn}
+use Rattle.demands.specs.Logs.{followFault, rowsNumber, logNumber, dayFindings, ruledFile}
+use Rattle.demands.specs.Logs.{Judged, printedOf, JudgesAll, none as no-log, next as one-log, ruledLogs}
 use Rattle.demands.specs.Demand2.{LogsRuled}
-use Rattle.demands.proofs.CallLaws.{Stands, rest, step, paper, stands-book, stands-out, handed-parts}
+use Rattle.demands.proofs.CallLaws.{Stands, rest, busy, step, paper, stands-book, stands-out, handed-parts}
 use Rattle.demands.proofs.NumberLaws.{refusal, number-is}
 use Rattle.demands.proofs.ListedLaws.{found-fits}
 use Rattle.demands.proofs.PaperLaws.{after-open, after-take, after-end}
@@ -37,13 +42,15 @@ or-zero a = go (eqb a 0) refl
     go false e = or-first a 0 (eqb-false a 0 e)
 
 -- on a book that the opening accepted, and with full room for findings, only the record itself can be refused
-pub end-plain : (log : List ℕ) (rs : List Record) (row book : List ℕ) (room : ℕ) → eqb (length row) 20 ≡ true
-    → bookFault (headerOf log) book ≡ 0 → 49152 ≤ room → endRefusal log rs row book room ≡ rowFault (dayIn log rs) row
-unfolding endRefusal
+pub end-plain : (log : List ℕ) (rs : List Record) (row book : List ℕ) (room : ℕ) → eqb (length row) (rowSize log) ≡ true
+    → bookFault (headerOf log .rulebook) (headerOf log .date) book ≡ 0 → fullRoom ≤ room
+    → endRefusal log rs row book room ≡ rowFault (dayIn log rs) row
+unfolding endRefusal shortFault
 end-plain log rs row book room e b h =
+    let long = le-ltb room _ (found-fits (tablesOf log) (timesOn (tablesOf log) rs) room h) in
     sym (pick-no _ _ _ _ (flip-no _ e) refl)
     ∙ ap (orElse (rowFault (dayIn log rs) row))
-    (or-else (bookFault (headerOf log) book) _ b ∙ sym (pick-no _ _ _ _ (le-ltb room _ (found-fits (tablesOf log) (timesOn (tablesOf log) rs) room h)) refl))
+    (or-else (bookFault (headerOf log .rulebook) (headerOf log .date) book) _ b ∙ sym (pick-no _ _ _ _ long refl))
     ∙ or-zero (rowFault (dayIn log rs) row)
 
 -- ---- the rules' number and records, row by row
@@ -53,15 +60,16 @@ module _ (log : List ℕ) (rs : List Record) where
   rows-stop = refl
 
   module _ (row : List ℕ) (more : List (List ℕ)) where
-    rows-cut : eqb (length row) 20 ≡ false → 1 ≡ rowsNumber log rs (row ∷ more)
+    rows-cut : eqb (length row) (rowSize log) ≡ false → 1 ≡ rowsNumber log rs (row ∷ more)
     unfolding rowsNumber
     rows-cut e = pick-yes _ _ _ _ (flip-yes _ e) refl
 
-    rows-end : eqb (length row) 20 ≡ true → isEnd row ≡ true → orElse (rowFault (dayIn log rs) row) (followFault more) ≡ rowsNumber log rs (row ∷ more)
+    rows-end : eqb (length row) (rowSize log) ≡ true → isEnd row ≡ true
+        → orElse (rowFault (dayIn log rs) row) (followFault more) ≡ rowsNumber log rs (row ∷ more)
     unfolding rowsNumber
     rows-end e t = pick-no _ _ _ _ (flip-no _ e) (pick-yes _ _ _ _ t refl)
 
-    rows-take : eqb (length row) 20 ≡ true → isEnd row ≡ false
+    rows-take : eqb (length row) (rowSize log) ≡ true → isEnd row ≡ false
         → orElse (takeNumber log rs row) (rowsNumber log (recordOf row ∷ rs) more) ≡ rowsNumber log rs (row ∷ more)
     unfolding rowsNumber
     rows-take e t = pick-no _ _ _ _ (flip-no _ e) (pick-no _ _ _ _ t refl)
@@ -82,6 +90,13 @@ call-number {p = p} {c = c} s g = ap numberIn (step s g .reply) ∙ number-is p 
 pub record Holds (book out : List ℕ) (w : Desk) : Type 0 where
   pub in-book : w .book ≡ book
   pub in-out : w .out ≡ out
+
+-- they are what ending the day of a log writes
+abbrev pub Wrote : (log book out : List ℕ) → List Record → Desk → Type 0
+Wrote log book out rs w =
+    let v = dayVerdict (tablesOf log) rs in
+    let date = headerOf log .date in
+    Holds (bookAfter v date book) (put out 0 (findings v date book)) w
 
 stands-holds : {w : Desk} {p : Paper} → Stands w p → Holds (p .book) (p .out) w
 stands-holds s = record { in-book = stands-book s; in-out = stands-out s }
@@ -107,7 +122,7 @@ module _ {w : Desk} {log : List ℕ} {rs : List Record} {book out : List ℕ} {r
   end-number m = call-number s m
 
   pub end-holds : Gives w (endDay row) g → endRefusal log rs row book (length out) ≡ 0
-      → Holds (bookAfter (tablesOf log) (headerOf log .date) book (timesOn (tablesOf log) rs)) (put out 0 (findings (tablesOf log) (headerOf log .date) book (timesOn (tablesOf log) rs))) (g .after)
+      → Wrote log book out rs (g .after)
   end-holds m z = stands-holds (subst (Stands (g .after)) (sym (after-end (paper (during log rs) book out room) log rs row z)) (step s m .after))
 
 -- ---- a log
@@ -115,55 +130,92 @@ module _ {w : Desk} {log : List ℕ} {rs : List Record} {book out : List ℕ} {r
 pub record Read (log book out : List ℕ) (n number : ℕ) (rs : List Record) (w : Desk) : Type 0 where
   pub same : n ≡ number
   pub written : n ≡ 0
-      → Holds (bookAfter (tablesOf log) (headerOf log .date) book (timesOn (tablesOf log) rs)) (put out 0 (findings (tablesOf log) (headerOf log .date) book (timesOn (tablesOf log) rs))) w
+      → Wrote log book out rs w
 
 read-of : {log book out : List ℕ} {n number : ℕ} {rs rs′ : List Record} {w : Desk} → rs ≡ rs′ → Read log book out n number rs w
     → Read log book out n number rs′ w
 read-of {log} {book} {out} {n} {number} {w = w} e q = subst (λ (x : List Record). Read log book out n number x w) e q
 
+-- where a day is open, the tables that are lent are its own
+stands-log : {w : Desk} {log : List ℕ} {rs : List Record} {book out : List ℕ} {len : ℕ}
+    → Stands w (paper (during log rs) book out len) → w .log ≡ log
+stands-log (busy n a) = refl
+
+-- so a row's length is held against theirs
+sized : {w : Desk} {log : List ℕ} {rs : List Record} {book out : List ℕ} {len : ℕ} (row : List ℕ) (t : Bool)
+    → Stands w (paper (during log rs) book out len) → eqb (length row) (rowSize (w .log)) ≡ t
+    → eqb (length row) (rowSize log) ≡ t
+sized row t s e = subst (λ (held : List ℕ). eqb (length row) (rowSize held) ≡ t) (stands-log s) e
+
 -- its rows, from a desk on which the day is open
-module _ (log book out : List ℕ) (room : ℕ) (b : bookFault (headerOf log) book ≡ 0) (l : 49152 ≤ length out) where
+module _ (log book out : List ℕ) (room : ℕ) (b : bookFault (headerOf log .rulebook) (headerOf log .date) book ≡ 0)
+    (l : fullRoom ≤ length out) where
+  -- the end's refusal is the record's own
+  plain : {w : Desk} (rs : List Record) (row : List ℕ) → Stands w (paper (during log rs) book out room)
+      → eqb (length row) (rowSize (w .log)) ≡ true
+      → endRefusal log rs row book (length out) ≡ rowFault (dayIn log rs) row
+  plain rs row s e = end-plain log rs row book (length out) (sized row true s e) b l
+
   reads : {w w′ : Desk} {rows : List (List ℕ)} {n : ℕ} (rs : List Record) → Stands w (paper (during log rs) book out room) → Reads w rows n w′
       → Read log book out n (rowsNumber log rs rows) (recordsIn rs rows) w′
   reads rs s stops = record { same = rows-stop log rs; written = λ z. absurd (omega arith) }
-  reads rs s (cut {row = row} {more = more} e) = record { same = rows-cut log rs row more e; written = λ z. absurd (omega arith) }
+  reads rs s (cut {row = row} {more = more} e) =
+      record { same = rows-cut log rs row more (sized row false s e); written = λ z. absurd (omega arith) }
   reads rs s (takes {row = row} {more = more} e t m z r) =
       let z′ : takeNumber log rs row ≡ 0 = sym (take-number row s m) ∙ z in
       let q = reads (recordOf row ∷ rs) (take-stands row s m z′) r in
+      let next = rows-take log rs row more (sized row true s e) t in
       read-of (records-take log rs row more t)
-      (record { same = q .same ∙ sym (or-else (takeNumber log rs row) _ z′) ∙ rows-take log rs row more e t; written = q .written })
+      (record { same = q .same ∙ sym (or-else (takeNumber log rs row) _ z′) ∙ next; written = q .written })
   reads rs s (take-refused {row = row} {more = more} e t m f) =
-      record {
-        same = take-number row s m ∙ sym (or-first (takeNumber log rs row) _ (λ z. f (take-number row s m ∙ z))) ∙ rows-take log rs row more e t;
+      let q = take-number row s m in record {
+        same =
+            q ∙ sym (or-first (takeNumber log rs row) _ (λ z. f (q ∙ z)))
+            ∙ rows-take log rs row more (sized row true s e) t;
         written = λ z. absurd (f z);
       }
   reads rs s (end-refused {row = row} {more = more} e t m f) =
-      let q = end-number row s m ∙ end-plain log rs row book (length out) e b l in
-      record { same = q ∙ sym (or-first (rowFault (dayIn log rs) row) _ (λ z. f (q ∙ z))) ∙ rows-end log rs row more e t; written = λ z. absurd (f z) }
+      let q = end-number row s m ∙ plain rs row s e in record {
+        same =
+            q ∙ sym (or-first (rowFault (dayIn log rs) row) _ (λ z. f (q ∙ z)))
+            ∙ rows-end log rs row more (sized row true s e) t;
+        written = λ z. absurd (f z);
+      }
   reads rs s (ends {row = row} e t m z) =
       let q = end-number row s m in
-      let f : rowFault (dayIn log rs) row ≡ 0 = sym (q ∙ end-plain log rs row book (length out) e b l) ∙ z in
+      let f : rowFault (dayIn log rs) row ≡ 0 = sym (q ∙ plain rs row s e) ∙ z in
       read-of (records-end log rs row [] t)
-      (record { same = sym (or-else (rowFault (dayIn log rs) row) 0 f) ∙ rows-end log rs row [] e t; written = λ _. end-holds row s m (sym q ∙ z) })
+      (record {
+        same = sym (or-else (rowFault (dayIn log rs) row) 0 f) ∙ rows-end log rs row [] (sized row true s e) t;
+        written = λ _. end-holds row s m (sym q ∙ z);
+      })
   reads rs s (follows {row = row} {next = next} {more = more} e t m z) =
-      let f : rowFault (dayIn log rs) row ≡ 0 = sym (end-number row s m ∙ end-plain log rs row book (length out) e b l) ∙ z in
-      record { same = sym (or-else (rowFault (dayIn log rs) row) 1 f) ∙ rows-end log rs row (next ∷ more) e t; written = λ z. absurd (omega arith) }
+      let f : rowFault (dayIn log rs) row ≡ 0 = sym (end-number row s m ∙ plain rs row s e) ∙ z in record {
+        same =
+            sym (or-else (rowFault (dayIn log rs) row) 1 f)
+            ∙ rows-end log rs row (next ∷ more) (sized row true s e) t;
+        written = λ z. absurd (omega arith);
+      }
 
 -- the whole of it, from the clerk's desk
-pub clerk-rests : (book : List ℕ) → Stands (clerkDesk book) (paper idle book (replicate 49152 0) cells)
-clerk-rests book = rest (length-replicate {A = ℕ} cells 0)
+pub clerk-rests : (book : List ℕ) → Stands (clerkDesk book) (paper idle book (replicate fullRoom 0) clerkCounts)
+clerk-rests book = rest (length-replicate {A = ℕ} clerkCounts 0)
 
 pub judges : {n : ℕ} {w : Desk} (book log : List ℕ) → Judges book log n w
-    → Read (front log) book (replicate 49152 0) n (logNumber book log) (recordsIn [] (rowsOf log)) w
+    → Read (front log) book (replicate fullRoom 0) n (logNumber book log) (recordsIn [] (rowsOf log)) w
 unfolding logNumber
 judges book log (open-refused m f) =
-    let q = open-number (clerk-rests book) m in
-    record { same = q ∙ sym (or-first (handedFault (front log) book cells) _ (λ z. f (q ∙ z))); written = λ z. absurd (f z) }
+    let q = open-number (clerk-rests book) m in record {
+      same = q ∙ sym (or-first (handedFault (front log) book clerkCounts) _ (λ z. f (q ∙ z)));
+      written = λ z. absurd (f z);
+    }
 judges book log (opened m z r) =
     let s = clerk-rests book in
-    let f : handedFault (front log) book cells ≡ 0 = sym (open-number s m) ∙ z in
-    let q = reads (front log) book (replicate 49152 0) cells (handed-parts (front log) book cells f .1) (omega (arith, length-replicate {A = ℕ} 49152 0)) [] (open-stands s m f) r in
-    record { same = q .same ∙ sym (or-else (handedFault (front log) book cells) _ f); written = q .written }
+    let f : handedFault (front log) book clerkCounts ≡ 0 = sym (open-number s m) ∙ z in
+    let fits = handed-parts (front log) book clerkCounts f .1 in
+    let full : fullRoom ≤ length (replicate {A = ℕ} fullRoom 0) = omega (arith, length-replicate {A = ℕ} fullRoom 0) in
+    let q = reads (front log) book (replicate fullRoom 0) clerkCounts fits full [] (open-stands s m f) r in
+    record { same = q .same ∙ sym (or-else (handedFault (front log) book clerkCounts) _ f); written = q .written }
 
 -- ---- a list of logs
 -- what is chosen where the number is 0, and else the same
@@ -188,7 +240,7 @@ file-is {n} book log j =
     pick-where n (logNumber book log) _ _ book (q .same) (λ z. q .written z .in-book)
 
 printed-is : {n : ℕ} {w : Desk} (book log : List ℕ) → Judges book log n w
-    → printedOf n (w .out) ≡ printedOf (logNumber book log) (put (replicate 49152 0) 0 (dayFindings book log))
+    → printedOf n (w .out) ≡ printedOf (logNumber book log) (put (replicate fullRoom 0) 0 (dayFindings book log))
 printed-is {n} book log j =
     let q = judges book log j in
     pick-where n (logNumber book log) _ _ [] (q .same) (λ z. q .written z .in-out)

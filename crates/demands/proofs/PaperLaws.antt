@@ -12,17 +12,17 @@ use Rattle.wire.specs.Choice.{pick}
 use Rattle.wire.specs.Buffers.{put}
 use Rattle.wire.proofs.ChoiceLaws.{pick-yes, pick-no}
 use Rattle.wire.proofs.BufferLaws.{length-put}
-use Rattle.book.specs.Fresh.{freshFault, freshBook}
 use Rattle.daylog.specs.declared.record.Record.{Record}
 use Rattle.daylog.specs.Header.{headerOf}
 use Rattle.daylog.specs.Records.{recordOf}
 use Rattle.daylog.specs.Tables.{Tables, tablesOf}
+use Rattle.verdict.specs.Verdict.{findings, bookAfter}
+use Rattle.desk.specs.Books.{freshFault}
 use Rattle.desk.specs.Open.{handedFault}
-use Rattle.desk.specs.Findings.{findings, bookAfter}
-use Rattle.demands.specs.Counts.{timesOn}
+use Rattle.demands.specs.Counts.{timesOn, dayVerdict}
 use Rattle.demands.specs.Days.{endedDay}
-use Rattle.demands.specs.Calls.{Step, makeBook, openDay, takeRecord, endDay, abandonDay, askBook, lendFindings}
-use Rattle.demands.specs.Paper.{Course, idle, during, Paper, takeNumber, endRefusal, at, resting, openRuled, takeRuled, endRuled, rule}
+use Rattle.demands.specs.Calls.{Step, makeBook, openDay, takeRecord, endDay, abandonDay, askBook, lendFindings, fullRoom}
+use Rattle.demands.specs.Paper.{Course, idle, during, Paper, takeNumber, endRefusal, freshBook, at, resting, openRuled, takeRuled, endRuled, rule}
 use Rattle.demands.specs.Demand2.{History, recorded}
 use Rattle.demands.specs.Demand3.{roomy}
 use Rattle.demands.proofs.NumberLaws.{refusal}
@@ -62,7 +62,8 @@ module _ (p : Paper) (h : History) where
   refused-leaves (during log rs) abandonDay f = absurd (f refl)
 
 -- ---- an accepted one
-pub after-open : (p : Paper) (log : List ℕ) → handedFault log (p .book) (p .room) ≡ 0 → at p (during log []) ≡ rule p idle (openDay log) .after
+pub after-open : (p : Paper) (log : List ℕ) → handedFault log (p .book) (p .len) ≡ 0
+    → at p (during log []) ≡ rule p idle (openDay log) .after
 unfolding rule openRuled
 after-open p log e = pick-yes _ _ _ _ (eq-eqb _ 0 e) refl
 
@@ -72,7 +73,8 @@ unfolding rule takeRuled
 after-take p log rs row e = pick-yes _ _ _ _ (eq-eqb _ 0 e) refl
 
 pub after-end : (p : Paper) (log : List ℕ) (rs : List Record) (row : List ℕ) → endRefusal log rs row (p .book) (length (p .out)) ≡ 0
-    → resting p (bookAfter (tablesOf log) (headerOf log .date) (p .book) (timesOn (tablesOf log) rs)) (put (p .out) 0 (findings (tablesOf log) (headerOf log .date) (p .book) (timesOn (tablesOf log) rs)))
+    → resting p (bookAfter (dayVerdict (tablesOf log) rs) (headerOf log .date) (p .book))
+    (put (p .out) 0 (findings (dayVerdict (tablesOf log) rs) (headerOf log .date) (p .book)))
     ≡ rule p (during log rs) (endDay row) .after
 unfolding rule endRuled
 after-end p log rs row e = pick-yes _ _ _ _ (eq-eqb _ 0 e) refl
@@ -99,36 +101,40 @@ abandon-book p idle = refl
 abandon-book p (during log rs) = refl
 
 -- ---- room: a step leaves the counts' length, and full room for findings where what it lends has it
-pub same-room : (p : Paper) (course : Course) (c : Step) → rule p course c .after .room ≡ p .room
+pub same-room : (p : Paper) (course : Course) (c : Step) → rule p course c .after .len ≡ p .len
 unfolding rule openRuled takeRuled endRuled
 same-room p course (makeBook rulebook) = refl
 same-room p course (askBook group kind family) = refl
 same-room p course (lendFindings out) = refl
-same-room p idle (openDay log) = either (λ (x : Paper). x .room ≡ p .room) _ _ p refl refl
+same-room p idle (openDay log) = either (λ (x : Paper). x .len ≡ p .len) _ _ p refl refl
 same-room p idle (takeRecord row) = refl
 same-room p idle (endDay row) = refl
 same-room p idle abandonDay = refl
 same-room p (during log rs) (openDay other) = refl
-same-room p (during log rs) (takeRecord row) = either (λ (x : Paper). x .room ≡ p .room) _ _ p refl refl
-same-room p (during log rs) (endDay row) = either (λ (x : Paper). x .room ≡ p .room) _ _ p refl refl
+same-room p (during log rs) (takeRecord row) = either (λ (x : Paper). x .len ≡ p .len) _ _ p refl refl
+same-room p (during log rs) (endDay row) = either (λ (x : Paper). x .len ≡ p .len) _ _ p refl refl
 same-room p (during log rs) abandonDay = refl
 
-pub written-room : (t : Tables) (rs : List Record) (date : ℕ) (book out : List ℕ) → 49152 ≤ length out
-    → 49152 ≤ length (put out 0 (findings t date book (timesOn t rs)))
+pub written-room : (t : Tables) (rs : List Record) (date : ℕ) (book out : List ℕ) → fullRoom ≤ length out
+    → fullRoom ≤ length (put out 0 (findings (dayVerdict t rs) date book))
 written-room t rs date book out h =
     let long = findings-list t rs date book .long in
-    omega (arith, length-put out 0 (findings t date book (timesOn t rs)) (omega (arith, found-fits t (timesOn t rs) (length out) h)))
+    let fits = found-fits t (timesOn t rs) (length out) h in
+    omega (arith, length-put out 0 (findings (dayVerdict t rs) date book) (omega (arith, fits)))
 
-pub full-out : (p : Paper) (course : Course) (c : Step) → 49152 ≤ length (p .out) → roomy c ≡ true → 49152 ≤ length (rule p course c .after .out)
+pub full-out : (p : Paper) (course : Course) (c : Step) → fullRoom ≤ length (p .out) → roomy c ≡ true
+    → fullRoom ≤ length (rule p course c .after .out)
 unfolding rule openRuled takeRuled endRuled roomy
 full-out p course (makeBook rulebook) h l = h
 full-out p course (askBook group kind family) h l = h
-full-out p course (lendFindings out) h l = leb-true 49152 (length out) l
-full-out p idle (openDay log) h l = either (λ (x : Paper). 49152 ≤ length (x .out)) _ _ p h h
+full-out p course (lendFindings out) h l = leb-true fullRoom (length out) l
+full-out p idle (openDay log) h l = either (λ (x : Paper). fullRoom ≤ length (x .out)) _ _ p h h
 full-out p idle (takeRecord row) h l = h
 full-out p idle (endDay row) h l = h
 full-out p idle abandonDay h l = h
 full-out p (during log rs) (openDay other) h l = h
-full-out p (during log rs) (takeRecord row) h l = either (λ (x : Paper). 49152 ≤ length (x .out)) _ _ p h h
-full-out p (during log rs) (endDay row) h l = either (λ (x : Paper). 49152 ≤ length (x .out)) _ _ p (written-room (tablesOf log) rs (headerOf log .date) (p .book) (p .out) h) h
+full-out p (during log rs) (takeRecord row) h l = either (λ (x : Paper). fullRoom ≤ length (x .out)) _ _ p h h
+full-out p (during log rs) (endDay row) h l =
+    either (λ (x : Paper). fullRoom ≤ length (x .out)) _ _ p
+    (written-room (tablesOf log) rs (headerOf log .date) (p .book) (p .out) h) h
 full-out p (during log rs) abandonDay h l = h

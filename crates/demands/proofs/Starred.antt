@@ -13,10 +13,15 @@ use Rattle.rules.specs.Choices.{byThree}
 use Rattle.rules.specs.Exemption.{known, exempt}
 use Rattle.rules.specs.Measure.{enough}
 use Rattle.rules.specs.Ladders.{family, rung}
-use Rattle.desk.specs.Counting.{accountOf, contractOf, hasAccount, groupOf, planFor, planOf, counted, countsFor}
+use Rattle.rules.specs.Kinds.{kindsOf, kindsIn, firstKind}
+use Rattle.daylog.specs.Accounts.{accountPlace}
+use Rattle.daylog.specs.Contracts.{contractPlace}
+use Rattle.daylog.specs.Tables.{accountOf, contractOf, hasAccount, groupOf}
+use Rattle.desk.specs.Counting.{planFor, planOf, countsAs, countsFor}
 use Rattle.desk.specs.Offences.{familyOf}
 use Rattle.demands.specs.Counts.{howMany, timesOf, reachesOn, offence}
-use Rattle.demands.specs.Starred.{dayWith, trade, cancel, selfTrades, cancels, cancelsOnTwo, largeCancels, cancelCounts, starred, allHold, Starred}
+use Rattle.demands.specs.Starred.{dayWith, trade, cancel, selfTrades, cancels, cancelsOnTwo, largeCancels}
+use Rattle.demands.specs.Starred.{cancelCounts, starred, allHold, Starred}
 use Rattle.demands.proofs.SampleLaws.{one-sound, one-unsound}
 
 -- ---- a table by its first row, and by its first n rows
@@ -28,7 +33,8 @@ hold-none : allHold [] ≡ true
 unfolding allHold
 hold-none = refl
 
-hold-parts : (n : ℕ) (rows : List Bool) → allHold (take n rows) ≡ true → allHold (drop n rows) ≡ true → allHold rows ≡ true
+hold-parts : (n : ℕ) (rows : List Bool) → allHold (take n rows) ≡ true → allHold (drop n rows) ≡ true
+    → allHold rows ≡ true
 unfolding allHold
 hold-parts zero rows p q = q
 hold-parts (suc n) [] p q = refl
@@ -44,7 +50,7 @@ unfolding starred allHold
 larges = refl
 
 offences : allHold (part 7 14) ≡ true
-unfolding starred allHold pick every some first byThree known exempt enough family accountOf contractOf hasAccount groupOf planFor planOf counted countsFor familyOf howMany timesOf reachesOn offence dayWith trade cancel selfTrades cancels cancelsOnTwo largeCancels
+unfolding starred allHold pick every some first byThree known exempt enough family accountOf contractOf hasAccount groupOf accountPlace contractPlace planFor planOf countsAs countsFor familyOf howMany timesOf reachesOn offence dayWith trade cancel selfTrades cancels cancelsOnTwo largeCancels
 offences = refl
 
 dates : allHold (part 21 2) ≡ true
@@ -52,7 +58,7 @@ unfolding starred allHold pick realDay monthDays
 dates = refl
 
 books : allHold (part 23 2) ≡ true
-unfolding starred pick realDay monthDays daysIn dayNumber
+unfolding starred pick realDay monthDays daysIn dayNumber kindsOf kindsIn firstKind
 books =
     hold-next _ _ (one-sound _ _ _ (omega arith) refl (omega arith) refl)
     (hold-next _ _ (one-unsound _ _ _ (omega arith) (omega arith) (omega arith) refl) hold-none)
@@ -62,7 +68,7 @@ unfolding starred allHold pick rung
 rungs = refl
 
 records : allHold (drop 29 starred) ≡ true
-unfolding starred allHold pick first known exempt accountOf contractOf hasAccount groupOf planFor planOf counted countsFor dayWith cancel cancelCounts
+unfolding starred allHold pick first known exempt accountOf contractOf hasAccount groupOf accountPlace contractPlace planFor planOf countsAs countsFor dayWith cancel cancelCounts
 records = refl
 
 pub starred-hold : Starred

@@ -10,15 +10,19 @@ use lib.ListN.{drop, length-take}
 use Rattle.wire.specs.Choice.{within}
 use Rattle.wire.proofs.ChoiceLaws.{pick-yes, pick-zero, and-left, and-right, and-no-right, bounds}
 use Rattle.wire.proofs.PlaceLaws.{every-at}
+use Rattle.rules.specs.declared.kinds.Kinds.{Kinds}
+use Rattle.rules.specs.declared.kinds.Kinds.the-variants.{One, Three, Four}
+use Rattle.rules.specs.Kinds.{kindsIn, firstKind}
+use Rattle.rules.proofs.KindLaws.{kinds-begin}
 use Rattle.daylog.specs.declared.record.Record.{Record}
 use Rattle.daylog.specs.Accounts.{accountAt, numberBefore, accountGoodAt, accountsGood}
 use Rattle.daylog.specs.Header.{headerOf, accountsPart, logFault}
 use Rattle.daylog.specs.Entries.{entries}
-use Rattle.daylog.specs.Tables.{Tables, tablesIn, tablesOf}
+use Rattle.daylog.specs.Tables.{Tables, tablesIn, tablesOf, accountOf, contractOf, hasAccount, hasContract, groupOf}
 use Rattle.daylog.proofs.FaultLaws.{log-sound}
-use Rattle.desk.specs.Counting.{accountOf, contractOf, hasAccount, hasContract, groupOf, planFor, planOf, countsFor, counted}
-use Rattle.desk.specs.Judging.{tableFault}
-use Rattle.demands.specs.Lent.{HasCell}
+use Rattle.book.specs.Places.{HasCell}
+use Rattle.desk.specs.Counting.{planFor, planOf, countsFor, countsAs, fieldsFault}
+use Rattle.desk.specs.Offences.{kindsOn}
 
 pub record Known (t : Tables) : Type 0 where
   pub few : t .contracts ≤ 32
@@ -50,8 +54,8 @@ pub record Has (t : Tables) (r : Record) : Type 0 where
   pub contract : contractOf t (r .contract) < t .contracts
   pub account : accountOf t (r .first) < t .accounts
 
-pub has-record : (t : Tables) (r : Record) → tableFault t r ≡ 0 → Has t r
-unfolding tableFault hasContract hasAccount
+pub has-record : (t : Tables) (r : Record) → fieldsFault t r ≡ 0 → Has t r
+unfolding fieldsFault hasContract hasAccount
 has-record t r e =
     let e1 = pick-zero _ 11 _ (lit< tt) e in
     let e2 = pick-zero _ 12 _ (lit< tt) (e1 .1) in
@@ -62,15 +66,26 @@ pub group-is : (t : Tables) (number : ℕ) → accountOf t number < t .accounts 
 unfolding groupOf hasAccount
 group-is t number h = sym (pick-yes _ _ _ _ (lt-ltb (accountOf t number) (t .accounts) h) refl)
 
+-- kinds that begin at 1 have the three as which a record counts
+three-kinds : (k : Kinds) → firstKind k ≡ 1 → 3 ≤ kindsIn k
+unfolding firstKind kindsIn
+three-kinds One e = absurd (omega arith)
+three-kinds Three e = omega arith
+three-kinds Four e = omega arith
+
 -- its group and its contract's place have cells
-pub placed : (t : Tables) → Known t → (r : Record) → Has t r → (k : ℕ) → 1 ≤ k → k ≤ 3 → HasCell (planOf t r .group) k (planOf t r .place)
+pub placed : (t : Tables) → Known t → (r : Record) → Has t r → (k : ℕ) → 1 ≤ k → k ≤ 3
+    → HasCell (kindsOn t) (planOf t r .group) k (planOf t r .place)
 unfolding planOf planFor
 placed t o r h k low high =
-    let g = group-is t (r .first) (h .account) in record {
-      first-group = omega (arith, o .first-group (accountOf t (r .first)) (h .account));
-      last-group = omega (arith, o .last-group (accountOf t (r .first)) (h .account));
-      first-kind = low;
-      last-kind = high;
+    let g = group-is t (r .first) (h .account) in
+    let begin = kinds-begin (t .text .rulebook) in record {
+      row = record {
+        first-group = omega (arith, o .first-group (accountOf t (r .first)) (h .account));
+        last-group = omega (arith, o .last-group (accountOf t (r .first)) (h .account));
+        first-kind = omega arith;
+        last-kind = omega (arith, three-kinds (kindsOn t) begin);
+      };
       last-place = omega (arith, o .few, h .contract);
     }
 
@@ -78,5 +93,5 @@ placed t o r h k low high =
 pub none-past : (t : Tables) (r : Record) → Has t r → (group kind place : ℕ) → t .contracts ≤ place → countsFor t r group kind place ≡ false
 unfolding countsFor planOf planFor
 none-past t r h group kind place l =
-    and-no-right (counted (planOf t r) kind && eqb (planOf t r .group) group) (eqb (contractOf t (r .contract)) place)
+    and-no-right (countsAs (planOf t r) kind && eqb (planOf t r .group) group) (eqb (contractOf t (r .contract)) place)
     (ne-eqb (contractOf t (r .contract)) place (λ e. omega (arith, h .contract)))

@@ -1,18 +1,20 @@
 -- Any list of calls as customers make them: "each call is handed the state, tables, counts and book as the call before
 -- left them". What a call gives is what its contract promises, and nothing else is known of it.
 use mathlib.Core.Path.{_≡_}
-use Prim.Native.Nat.{ℕ}
+use Prim.Native.Nat.{ℕ, _*_}
 use mathlib.Core.List.{List, [], _∷_, map}
 use Rattle.book.specs.declared.fresh.NewBook.{NewBook}
 use Rattle.book.specs.declared.ask.Asked.{Asked}
-use Rattle.book.specs.Fresh.{freshNumber, FreshGives}
-use Rattle.book.specs.Ask.{askNumber, askAnswer}
+use Rattle.rules.specs.Kinds.{mostKinds}
+use Rattle.book.specs.Fresh.{freshNumber}
+use Rattle.book.specs.Ask.{askNumber}
 use Rattle.desk.specs.declared.state.State.{State}
 use Rattle.desk.specs.declared.state.Answer.{Answer}
 use Rattle.desk.specs.declared.state.Answer.the-variants.{Done, Refused}
 use Rattle.desk.specs.declared.end.Ended.{Ended}
 use Rattle.desk.specs.declared.end.Ended.the-variants.{Done as EndDone, Refused as EndRefused}
 use Rattle.desk.specs.Answers.{numberOf}
+use Rattle.desk.specs.Books.{FreshGives, askAnswer}
 use Rattle.desk.specs.Take.{TakeGives}
 use Rattle.desk.specs.Open.{OpenGives}
 use Rattle.desk.specs.Abandon.{abandonAnswer}
@@ -124,4 +126,4 @@ left w (g ∷ gs) = left (g .after) gs
 
 -- room for all findings of a day: "At most 6,144, which is 49,152 bytes"
 abbrev pub fullRoom : ℕ
-fullRoom = 49152
+fullRoom = 8 * (2048 * mostKinds)

@@ -9,7 +9,9 @@ use Rattle.rules.specs.Measure.{times, enough, reached}
 use Rattle.daylog.specs.declared.record.Record.{Record}
 use Rattle.daylog.specs.Tables.{Tables}
 use Rattle.desk.specs.Counting.{countsFor}
-use Rattle.desk.specs.Offences.{groupAt, kindAt, familyAt, familyOf}
+use Rattle.book.specs.Places.{groupAt, kindAt, familyAt}
+use Rattle.verdict.specs.Verdict.{Verdict}
+use Rattle.desk.specs.Offences.{kindsOn, familyOf, verdictOn}
 
 -- how many of a list pass the test
 unfoldable pub howMany : {A : Type 0} → (A → Bool) → List A → ℕ
@@ -22,12 +24,12 @@ timesOf t rs group kind place = howMany (λ r. countsFor t r group kind place) r
 
 -- the same for each ladder's group and kind
 unfoldable pub timesOn : Tables → List Record → (ladder place : ℕ) → ℕ
-timesOn t rs ladder place = timesOf t rs (groupAt ladder) (kindAt ladder) place
+timesOn t rs ladder place = timesOf t rs (groupAt (kindsOn t) ladder) (kindAt (kindsOn t) ladder) place
 
 -- the contract at a place is of the family and has at least the number of records: "Reaching the number is enough."
 unfoldable pub reachesOn : Tables → List Record → (group kind family place : ℕ) → Bool
 reachesOn t rs group kind family place =
-    eqb (familyOf t place) family && reached (times (timesOf t rs group kind place)) (enough (t .rulebook) kind)
+    eqb (familyOf t place) family && reached (times (timesOf t rs group kind place)) (enough (t .text) kind)
 
 -- 01, "Ladders": "A group has one offence of a kind in a family on a day if any contract of the family reaches the
 -- number."
@@ -36,7 +38,11 @@ offence t rs group kind family = some (reachesOn t rs group kind family) (t .con
 
 -- the same for each ladder's group, kind and family
 abbrev pub reachesAt : Tables → List Record → (ladder place : ℕ) → Bool
-reachesAt t rs ladder = reachesOn t rs (groupAt ladder) (kindAt ladder) (familyAt ladder)
+reachesAt t rs ladder = reachesOn t rs (groupAt (kindsOn t) ladder) (kindAt (kindsOn t) ladder) (familyAt ladder)
 
 abbrev pub offenceAt : Tables → List Record → (ladder : ℕ) → Bool
-offenceAt t rs ladder = offence t rs (groupAt ladder) (kindAt ladder) (familyAt ladder)
+offenceAt t rs ladder = offence t rs (groupAt (kindsOn t) ladder) (kindAt (kindsOn t) ladder) (familyAt ladder)
+
+-- what the day's end goes by, with the records' times
+abbrev pub dayVerdict : Tables → List Record → Verdict
+dayVerdict t rs = verdictOn t (timesOn t rs)

@@ -5,12 +5,13 @@ use mathlib.Core.List.{List, [], _∷_}
 use lib.Dec.{eqb, ltb}
 use Rattle.wire.specs.Choice.{pick}
 use Rattle.calendar.specs.Dates.{year}
-use Rattle.book.specs.Layout.{bookOf, rulebookOf, lastDate, totalAt}
+use Rattle.book.specs.Shape.{rulebookOf}
+use Rattle.book.specs.Layout.{bookOf, lastDate, totalAt}
 use Rattle.daylog.specs.declared.record.Record.{Record}
 use Rattle.daylog.specs.Header.{headerOf}
 use Rattle.daylog.specs.Tables.{Tables, tablesOf}
-use Rattle.desk.specs.Findings.{foundAt}
-use Rattle.demands.specs.Counts.{howMany, timesOf, timesOn, offence, offenceAt}
+use Rattle.verdict.specs.Verdict.{foundAt}
+use Rattle.demands.specs.Counts.{howMany, timesOf, offence, offenceAt, dayVerdict}
 
 -- a day that was ended: its date, its tables, the records that it took
 pub record PastDay : Type 0 where
@@ -60,7 +61,7 @@ bookOver from (d ∷ days) =
 -- what a day adds to its findings for a ladder, as bytes, on the book of the days before it
 abbrev pub foundOn : List ℕ → PastDay → List PastDay → ℕ → List ℕ
 foundOn from d before ladder =
-    foundAt (d .tables) (d .date) (bookOver from before) (timesOn (d .tables) (d .records)) ladder
+    foundAt (dayVerdict (d .tables) (d .records)) (d .date) (bookOver from before) ladder
 
 -- a fresh book: no last date, and every total 0
 unfoldable pub blank : ℕ → List ℕ

@@ -5,8 +5,7 @@ use mathlib.Core.Path.{_≡_}
 use mathlib.Core.List.{List}
 use Prim.Native.Nat.{ℕ}
 use lib.ListN.{length}
-use Rattle.book.specs.Fresh.{freshFault}
-use Rattle.book.specs.Ask.{askFault}
+use Rattle.desk.specs.Books.{freshFault, askFault}
 use Rattle.desk.specs.Open.{openFault}
 use Rattle.desk.specs.Take.{takeFault}
 use Rattle.desk.specs.End.{endFault}
@@ -28,9 +27,9 @@ OneAnswer = (w : Desk) (cs : List Step) (gs gs′ : List Given) → Ran w cs gs 
 -- ---- "the number the specification names, in the order it names": each call's chain of refusals, 0 for none
 unfoldable pub namedNumber : Desk → Step → ℕ
 namedNumber w (makeBook rulebook) = freshFault (length (w .book)) rulebook
-namedNumber w (openDay log) = openFault (w .state) log (w .book) (w .counts)
+namedNumber w (openDay log) = openFault (w .state) log (w .book) (length (w .counts))
 namedNumber w (takeRecord row) = takeFault (w .state) (w .log) row (w .counts)
-namedNumber w (endDay row) = endFault (w .state) (w .log) row (w .book) (w .counts) (w .out)
+namedNumber w (endDay row) = endFault (w .state) (w .log) row (w .book) (w .counts) (length (w .out))
 namedNumber w abandonDay = abandonFault (w .state)
 namedNumber w (askBook group kind family) = askFault (w .book) group kind family
 namedNumber w (lendFindings out) = 0

@@ -11,21 +11,25 @@ use lib.ListN.{length, replicate}
 use Rattle.wire.specs.Choice.{pick}
 use Rattle.wire.specs.Buffers.{put, rows}
 use Rattle.calendar.specs.Dates.{year}
-use Rattle.book.specs.Fresh.{freshFault, freshBook}
-use Rattle.book.specs.Layout.{ladders, lastDate, totalAt}
+use Rattle.rules.specs.Kinds.{kindsOf}
+use Rattle.book.specs.Shape.{rulebookOf}
+use Rattle.book.specs.Places.{ladders}
+use Rattle.book.specs.Layout.{lastDate, totalAt}
 use Rattle.book.specs.Sound.{sound}
 use Rattle.daylog.specs.declared.record.Record.{Record}
 use Rattle.daylog.specs.Header.{logFault}
+use Rattle.daylog.specs.Rows.{front, rowsOf}
 use Rattle.daylog.specs.Tables.{Tables, tablesOf}
+use Rattle.verdict.specs.Verdict.{findings, foundCount}
+use Rattle.desk.specs.Books.{freshFault}
 use Rattle.desk.specs.declared.state.State.the-variants.{Closed}
 use Rattle.desk.specs.Offences.{lowestOn}
-use Rattle.desk.specs.Findings.{findings, foundCount}
-use Rattle.demands.specs.Counts.{timesOn, reachesAt}
+use Rattle.demands.specs.Counts.{timesOn, reachesAt, dayVerdict}
 use Rattle.demands.specs.Days.{PastDay, endedDay, carried, totalOver, bookOver, foundOn, blank}
 use Rattle.demands.specs.Listed.{Lists}
 use Rattle.demands.specs.Calls.{Step, makeBook, openDay, takeRecord, endDay, abandonDay, askBook, lendFindings, Reply, numberIn, Desk, Given, Gives, Ran, left, fullRoom}
-use Rattle.demands.specs.Logs.{front, rowsOf, recordsIn, logNumber, ruledFile, Judges, Judged, JudgesAll, ruledLogs}
-use Rattle.demands.specs.Paper.{Course, idle, during, Paper, Ruled, endRefusal, rule, rules}
+use Rattle.demands.specs.Logs.{recordsIn, logNumber, ruledFile, Judges, Judged, JudgesAll, ruledLogs}
+use Rattle.demands.specs.Paper.{Course, idle, during, Paper, Ruled, endRefusal, freshBook, rule, rules}
 use Rattle.demands.specs.Lent.{lastOpened, CountsHold}
 use Rattle.demands.specs.Restrictions.{Sanctioned}
 
@@ -44,7 +48,7 @@ ruled r = record { reply = r .reply; book = r .after .book; out = r .after .out 
 
 -- the paper that goes with a desk on which no day is open
 abbrev pub begun : Desk → Paper
-begun w = record { course = idle; book = w .book; out = w .out; room = length (w .counts) }
+begun w = record { course = idle; book = w .book; out = w .out; len = length (w .counts) }
 
 -- every answer, every refusal's number, the findings and the book are those of the rules; for any book and buffers
 abbrev pub CallsRuled : Type 0
@@ -76,7 +80,7 @@ NeverUnsound = (w : Desk) (cs : List Step) (gs : List Given) → SoundRun w cs g
 -- ---- a day's findings
 abbrev pub FindingsListed : Type 0
 FindingsListed = (t : Tables) (rs : List Record) (date : ℕ) (book : List ℕ)
-    → Lists t rs date book (findings t date book (timesOn t rs)) (foundCount t (timesOn t rs))
+    → Lists t rs date book (findings (dayVerdict t rs) date book) (foundCount (dayVerdict t rs))
 
 -- "the lowest contract id that reached the number": on sound tables no contract of the family with a lower id did
 abbrev pub LowestId : Type 0
@@ -119,9 +123,9 @@ BookOfDays = (w : Desk) (cs : List Step) (gs : List Given) → SoundRun w cs gs
 
 -- each total is what was carried into the year, and that year's days, among those, that were an offence
 abbrev pub TotalsCounted : Type 0
-TotalsCounted = (w : Desk) (cs : List Step) (gs : List Given) → SoundRun w cs gs → (ladder : ℕ) → ladder < ladders →
+TotalsCounted = (w : Desk) (cs : List Step) (gs : List Given) → SoundRun w cs gs → (ladder : ℕ) →
     let book = left w gs .book in
-    totalAt book ladder ≡ totalOver (since w cs .from) (year (lastDate book)) ladder (since w cs .days)
+    ladder < ladders (kindsOf (rulebookOf book)) → totalAt book ladder ≡ totalOver (since w cs .from) (year (lastDate book)) ladder (since w cs .days)
 
 -- a fresh book is blank, and from a blank one nothing is carried: each total is the number of the year's offence days
 abbrev pub FreshIsBlank : Type 0
@@ -129,7 +133,7 @@ FreshIsBlank = (book : List ℕ) (rulebook : ℕ) → freshFault (length book) r
     → freshBook book rulebook ≡ blank rulebook
 
 abbrev pub BlankCarriesNothing : Type 0
-BlankCarriesNothing = (rulebook y ladder : ℕ) → ladder < ladders → carried (blank rulebook) y ladder ≡ 0
+BlankCarriesNothing = (rulebook y ladder : ℕ) → ladder < ladders (kindsOf rulebook) → carried (blank rulebook) y ladder ≡ 0
 
 -- the sanctions in the findings are those of the totals
 abbrev pub SanctionsFound : Type 0
@@ -140,7 +144,8 @@ SanctionsFound = (w : Desk) (cs : List Step) (gs : List Given) → SoundRun w cs
 pub record Found (w : Desk) (cs : List Step) (gs : List Given) (row : List ℕ) (g : Given) : Type 0 where
   pub day : PastDay
   pub one-more : since w (cs ++ endDay row ∷ []) .days ≡ day ∷ since w cs .days
-  pub bytes : g .after .out ≡ put (left w gs .out) 0 (rows (foundOn (since w cs .from) day (since w cs .days)) ladders)
+  pub bytes : g .after .out ≡ put (left w gs .out) 0
+      (rows (foundOn (since w cs .from) day (since w cs .days)) (ladders (kindsOf (rulebookOf (since w cs .from)))))
 
 abbrev pub FindingsFound : Type 0
 FindingsFound = (w : Desk) (cs : List Step) (gs : List Given) → SoundRun w cs gs → (row : List ℕ) (g : Given)
@@ -181,4 +186,5 @@ FileOfDays = (book : List ℕ) (logs : List (List ℕ)) (js : List Judged) → s
 abbrev pub LogsFound : Type 0
 LogsFound = (book : List ℕ) (logs : List (List ℕ)) (js : List Judged) → sound book ≡ true → JudgesAll book logs js
     → (log : List ℕ) (w : Desk) → Judges (lastFile book js) log 0 w
-    → w .out ≡ put (replicate fullRoom 0) 0 (rows (foundOn book (loggedDay log) (logDays book [] logs)) ladders)
+    → w .out ≡ put (replicate fullRoom 0) 0
+    (rows (foundOn book (loggedDay log) (logDays book [] logs)) (ladders (kindsOf (rulebookOf book))))

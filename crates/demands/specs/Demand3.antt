@@ -8,16 +8,20 @@ use mathlib.Core.List.{List, [], _∷_, map}
 use Prim.Native.Nat.{ℕ, _+_, _≤_, _<_}
 use lib.Dec.{leb}
 use lib.ListN.{length}
-use Rattle.book.specs.Layout.{ladders, ladderOf, totalAt}
+use Rattle.rules.specs.declared.kinds.Kinds.{Kinds}
+use Rattle.rules.specs.Kinds.{kindsOf, mostKinds}
+use Rattle.rules.specs.Codes.{isRulebook}
+use Rattle.book.specs.Shape.{rulebookOf}
+use Rattle.book.specs.Places.{ladders, ladderOf, groupAt, HasCell, HasLadder}
+use Rattle.book.specs.Layout.{totalAt}
 use Rattle.daylog.specs.Tables.{tablesOf}
 use Rattle.desk.specs.declared.state.State.the-variants.{Closed}
-use Rattle.desk.specs.Cells.{cells}
-use Rattle.desk.specs.Offences.{groupAt}
+use Rattle.desk.specs.Offences.{kindsOn}
 use Rattle.demands.specs.Days.{PastDay, timesIn, offenceIn, foundOn, blank}
 use Rattle.demands.specs.Calls.{Step, makeBook, openDay, takeRecord, endDay, abandonDay, askBook, lendFindings, numberIn, Desk, Given, numbers, Ran, left, fullRoom}
 use Rattle.demands.specs.Paper.{Course, idle, during}
-use Rattle.demands.specs.Logs.{Judged, JudgesAll}
-use Rattle.demands.specs.Lent.{HasCell, cellIn, lastOpened}
+use Rattle.demands.specs.Logs.{clerkCounts, Judged, JudgesAll}
+use Rattle.demands.specs.Lent.{cellIn, lastOpened}
 use Rattle.demands.specs.Demand2.{begun, since, logDays, lastFile}
 use Rattle.demands.specs.Join.{joinLog, Joined, between}
 use Rattle.demands.specs.Restrictions.{restrictions}
@@ -37,12 +41,12 @@ pub record Other (a b group : ℕ) : Type 0 where
 
 -- ---- what a join leaves of the counts: they add, on every contract
 -- `n` and `n′` count for a group, a kind and a contract's place, before and after; `across` trades between the two
-pub record Added (a b : ℕ) (n n′ : (group kind place : ℕ) → ℕ) (across : ℕ → ℕ) : Type 0 where
+pub record Added (kinds : Kinds) (a b : ℕ) (n n′ : (group kind place : ℕ) → ℕ) (across : ℕ → ℕ) : Type 0 where
   pub selfs : (place : ℕ) → place < 32 → n′ b 1 place ≡ n a 1 place + n b 1 place + across place
   pub frequent : (place : ℕ) → place < 32 → n′ b 2 place ≡ n a 2 place + n b 2 place
   pub over : (place : ℕ) → place < 32 → n′ b 3 place ≡ n a 3 place + n b 3 place
-  pub none-left : (kind place : ℕ) → HasCell a kind place → n′ a kind place ≡ 0
-  pub others : (group kind place : ℕ) → HasCell group kind place → Other a b group
+  pub none-left : (kind place : ℕ) → HasCell kinds a kind place → n′ a kind place ≡ 0
+  pub others : (group kind place : ℕ) → HasCell kinds group kind place → Other a b group
       → n′ group kind place ≡ n group kind place
 
 -- ---- of a day: `before` and `before′` are the days before it, on the book `from`
@@ -50,13 +54,15 @@ pub record DayJoined (a b : ℕ) (from : List ℕ) (d d′ : PastDay) (before be
   pub date : d′ .date ≡ d .date
   pub records : d′ .records ≡ d .records
   pub tables : Joined a b (d .tables) (d′ .tables)
-  pub added : Added a b (timesIn d) (timesIn d′) (between (d .tables) (d .records) a b)
+  pub added : Added (kindsOn (d .tables)) a b (timesIn d) (timesIn d′) (between (d .tables) (d .records) a b)
   -- "Every day that was an offence of a or of b, of a kind in a family, is one of the joined group on the same ladder."
   pub stays : (kind family : ℕ) → (offenceIn d a kind family ≡ true) ⊎ (offenceIn d b kind family ≡ true)
       → offenceIn d′ b kind family ≡ true
   -- other groups' findings are as they were, byte for byte, and group a has none any more
-  pub others : (l : ℕ) → l < ladders → Other a b (groupAt l) → foundOn from d′ before′ l ≡ foundOn from d before l
-  pub gone : (l : ℕ) → l < ladders → groupAt l ≡ a → foundOn from d′ before′ l ≡ []
+  pub others : (l : ℕ) → l < ladders (kindsOn (d .tables)) → Other a b (groupAt (kindsOn (d .tables)) l)
+      → foundOn from d′ before′ l ≡ foundOn from d before l
+  pub gone : (l : ℕ) → l < ladders (kindsOn (d .tables)) → groupAt (kindsOn (d .tables)) l ≡ a
+      → foundOn from d′ before′ l ≡ []
 
 pub data DaysJoined (a b : ℕ) (from : List ℕ) : List PastDay → List PastDay → Type 0 where
   none : DaysJoined a b from [] []
@@ -65,20 +71,20 @@ pub data DaysJoined (a b : ℕ) (from : List ℕ) : List PastDay → List PastDa
 
 -- ---- of the days and the books that they leave: totals at the end, and opening restrictions in each year
 -- group g had no more on a kind's ladder in a family than group b has after the join
-pub record NoFewer (g b : ℕ) (from book book′ : List ℕ) (days days′ : List PastDay) (kind family : ℕ) : Type 0 where
-  pub totals : totalAt book (ladderOf g kind family) ≤ totalAt book′ (ladderOf b kind family)
+pub record NoFewer (kinds : Kinds) (g b : ℕ) (from book book′ : List ℕ) (days days′ : List PastDay) (kind family : ℕ) : Type 0 where
+  pub totals : totalAt book (ladderOf kinds g kind family) ≤ totalAt book′ (ladderOf kinds b kind family)
   pub restricted : (y : ℕ)
-      → restrictions from y (ladderOf g kind family) days ≤ restrictions from y (ladderOf b kind family) days′
+      → restrictions from y (ladderOf kinds g kind family) days ≤ restrictions from y (ladderOf kinds b kind family) days′
 
-pub record YearJoined (a b : ℕ) (from book book′ : List ℕ) (days days′ : List PastDay) : Type 0 where
+pub record YearJoined (kinds : Kinds) (a b : ℕ) (from book book′ : List ℕ) (days days′ : List PastDay) : Type 0 where
   pub each : DaysJoined a b from days days′
-  pub than-a : (kind family : ℕ) → 1 ≤ kind → kind ≤ 3 → family ≤ 15
-      → NoFewer a b from book book′ days days′ kind family
-  pub than-b : (kind family : ℕ) → 1 ≤ kind → kind ≤ 3 → family ≤ 15
-      → NoFewer b b from book book′ days days′ kind family
+  pub than-a : (kind family : ℕ) → HasLadder kinds a kind family
+      → NoFewer kinds a b from book book′ days days′ kind family
+  pub than-b : (kind family : ℕ) → HasLadder kinds b kind family
+      → NoFewer kinds b b from book book′ days days′ kind family
   -- "all other groups' findings and totals are exactly as they were, and group a has none any more"
-  pub others : (l : ℕ) → l < ladders → Other a b (groupAt l) → totalAt book′ l ≡ totalAt book l
-  pub gone : (l : ℕ) → l < ladders → groupAt l ≡ a → totalAt book′ l ≡ 0
+  pub others : (l : ℕ) → l < ladders kinds → Other a b (groupAt kinds l) → totalAt book′ l ≡ totalAt book l
+  pub gone : (l : ℕ) → l < ladders kinds → groupAt kinds l ≡ a → totalAt book′ l ≡ 0
 
 -- ---- any list of steps from a fresh book, and the same with the two groups joined in every table
 -- a findings buffer that is lent between may be another
@@ -118,13 +124,13 @@ pub data Accepted : List Given → Type 0 where
 -- the joined run has full room for findings. Of the run itself: either every call was accepted, and its buffers are of
 -- any length; or they have full room too and the counts are of one length, and any calls may have been refused
 pub data Fair (w w′ : Desk) (cs : List Step) (gs : List Given) : Type 0 where
-  accepted : Accepted gs → cells ≤ length (w′ .counts) → Fair w w′ cs gs
+  accepted : Accepted gs → clerkCounts ≤ length (w′ .counts) → Fair w w′ cs gs
   full-size : fullRoom ≤ length (w .out) → allRoomy cs ≡ true → length (w′ .counts) ≡ length (w .counts)
       → Fair w w′ cs gs
 
 -- a run from a fresh book, with no day open
 pub record FreshRun (rulebook : ℕ) (w : Desk) (cs : List Step) (gs : List Given) : Type 0 where
-  pub known : (rulebook ≡ 1) ⊎ (rulebook ≡ 2)
+  pub known : isRulebook rulebook ≡ true
   pub closed : w .state ≡ Closed
   pub fresh : w .book ≡ blank rulebook
   pub ran : Ran w cs gs
@@ -141,7 +147,9 @@ pub record Run (a b rulebook : ℕ) (w w′ : Desk) (cs cs′ : List Step) (gs g
 -- the lent counts of the two runs, on the day last opened: its cells add
 abbrev pub CellsAdded : (a b : ℕ) → Course → (c c′ : List ℕ) → Type 0
 CellsAdded a b idle c c′ = Unit {0}
-CellsAdded a b (during log rs) c c′ = Added a b (cellIn c) (cellIn c′) (between (tablesOf log) rs a b)
+CellsAdded a b (during log rs) c c′ =
+    let kinds = kindsOn (tablesOf log) in
+    Added kinds a b (cellIn kinds c) (cellIn kinds c′) (between (tablesOf log) rs a b)
 
 -- each call, refused ones too, gets the number that it had: an accepted one is accepted again
 abbrev pub SameNumbers : (gs gs′ : List Given) → Type 0
@@ -152,7 +160,7 @@ pub record RunJoined (a b : ℕ) (w w′ : Desk) (cs cs′ : List Step) (gs gs�
   pub same-numbers : SameNumbers gs gs′
   pub cells-add : CellsAdded a b (lastOpened (begun w) idle cs) (left w gs .counts) (left w′ gs′ .counts)
   pub same-book : since w′ cs′ .from ≡ since w cs .from
-  pub year : YearJoined a b (since w cs .from) (left w gs .book) (left w′ gs′ .book)
+  pub year : YearJoined (kindsOf (rulebookOf (since w cs .from))) a b (since w cs .from) (left w gs .book) (left w′ gs′ .book)
       (since w cs .days) (since w′ cs′ .days)
 
 abbrev pub NothingLost : Type 0
@@ -163,11 +171,11 @@ NothingLost = (a b rulebook : ℕ) (w w′ : Desk) (cs cs′ : List Step) (gs gs
 pub record LogsJoined (a b rulebook : ℕ) (logs : List (List ℕ)) (js js′ : List Judged) : Type 0 where
   -- each log gets the number that it had: an accepted one is accepted again
   pub same-numbers : map (λ j. j .number) js′ ≡ map (λ j. j .number) js
-  pub year : YearJoined a b (blank rulebook) (lastFile (blank rulebook) js) (lastFile (blank rulebook) js′)
+  pub year : YearJoined (kindsOf rulebook) a b (blank rulebook) (lastFile (blank rulebook) js) (lastFile (blank rulebook) js′)
       (logDays (blank rulebook) [] logs) (logDays (blank rulebook) [] (map (joinLog a b) logs))
 
 abbrev pub NothingLostInLogs : Type 0
 NothingLostInLogs = (a b rulebook : ℕ) (logs : List (List ℕ)) (js js′ : List Judged)
-    → Two a b → (rulebook ≡ 1) ⊎ (rulebook ≡ 2)
+    → Two a b → isRulebook rulebook ≡ true
     → JudgesAll (blank rulebook) logs js → JudgesAll (blank rulebook) (map (joinLog a b) logs) js′
     → LogsJoined a b rulebook logs js js′

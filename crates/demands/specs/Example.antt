@@ -6,7 +6,8 @@ use Prim.Native.Nat.{ℕ, _+_, _≤_}
 use lib.Dec.{eqb}
 use lib.ListN.{replicate}
 use Rattle.wire.specs.Choice.{pick}
-use Rattle.book.specs.Layout.{ladderOf}
+use Rattle.rules.specs.Kinds.{kindsOf}
+use Rattle.book.specs.Places.{ladderOf}
 use Rattle.daylog.specs.declared.record.Record.{Record}
 use Rattle.daylog.specs.Tables.{Tables}
 use Rattle.demands.specs.Days.{PastDay, blank}
@@ -19,7 +20,7 @@ use Rattle.demands.specs.Restrictions.{sanctions, restrictions}
 -- group 2
 unfoldable pub tablesWith : (group : ℕ) → Tables
 tablesWith group = record {
-  rulebook = 1;
+  text = record { rulebook = 1 };
   contracts = 1;
   contract = λ place. futures 101 1000;
   accounts = 2;
@@ -46,11 +47,11 @@ daysWith group = dayOf 20240104 group ∷ dayOf 20240103 group ∷ dayOf 2024010
 -- ---- the two ways to count, in 2024, on the ladder of a group for self-trades in futures
 -- findings with sanction 3
 unfoldable pub threeAlone : (group : ℕ) → List PastDay → ℕ
-threeAlone group days = sanctions (λ s. eqb s 3) (blank 1) 2024 (ladderOf group 1 0) days
+threeAlone group days = sanctions (λ s. eqb s 3) (blank 1) 2024 (ladderOf (kindsOf 1) group 1 0) days
 
 -- findings with sanction 3 or 5
 unfoldable pub threeOrFive : (group : ℕ) → List PastDay → ℕ
-threeOrFive group days = restrictions (blank 1) 2024 (ladderOf group 1 0) days
+threeOrFive group days = restrictions (blank 1) 2024 (ladderOf (kindsOf 1) group 1 0) days
 
 pub record WhyThreeOrFive : Type 0 where
   -- the tables after are those before with group 1 joined to group 2

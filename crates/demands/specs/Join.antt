@@ -9,8 +9,8 @@ use Rattle.wire.specs.Choice.{pick}
 use Rattle.daylog.specs.declared.header.Header.{Header}
 use Rattle.daylog.specs.declared.record.Record.{Record}
 use Rattle.daylog.specs.Header.{headerOf}
-use Rattle.daylog.specs.Tables.{Tables}
-use Rattle.desk.specs.Counting.{contractOf, groupOf, exempt1, exempt2}
+use Rattle.daylog.specs.Tables.{Tables, contractOf, groupOf}
+use Rattle.desk.specs.Counting.{exempt1, exempt2}
 use Rattle.demands.specs.Counts.{howMany}
 
 -- ---- the change of bytes
@@ -39,7 +39,7 @@ joinLog a b log = byPlace (λ i x. pick (groupByte (headerOf log) i) (joined a b
 
 -- ---- what it is for the tables: the groups of accounts change and nothing else does
 pub record Joined (a b : ℕ) (t t′ : Tables) : Type 0 where
-  pub rulebook : t′ .rulebook ≡ t .rulebook
+  pub text : t′ .text ≡ t .text
   pub contracts : t′ .contracts ≡ t .contracts
   pub contract : (k : ℕ) → t′ .contract k ≡ t .contract k
   pub accounts : t′ .accounts ≡ t .accounts
@@ -53,7 +53,7 @@ betweenFor t r a b place =
     let e = t .contract (contractOf t (r .contract)) in
     let one = groupOf t (r .first) in
     let two = groupOf t (r .second) in
-    eqb (r .sort) 1 && not (exempt1 (t .rulebook) e r 1) && not (exempt2 (t .rulebook) e r 1)
+    eqb (r .sort) 1 && not (exempt1 (t .text) e r 1) && not (exempt2 (t .text) e r 1)
     && ((eqb one a && eqb two b) || (eqb one b && eqb two a)) && eqb (contractOf t (r .contract)) place
 
 unfoldable pub between : Tables → List Record → (a b place : ℕ) → ℕ

@@ -1,73 +1,56 @@
 -- 01, "The clerk's program": a day log as bytes, as the clerk reads it; by the calls, and by the rules alone.
 use mathlib.Core.Path.{_≡_}
-use mathlib.Core.Bool.{Bool, true, false, not, _&&_}
+use mathlib.Core.Bool.{true, false, not}
 use mathlib.Core.List.{List, [], _∷_}
-use Prim.Native.Nat.{ℕ, zero, suc, _+_, _*_}
+use Prim.Native.Nat.{ℕ, _*_}
 use lib.Dec.{eqb}
-use lib.ListN.{length, getD, take, drop, replicate}
-use Rattle.wire.specs.Choice.{pick, within, orElse}
+use lib.ListN.{length, replicate}
+use Rattle.wire.specs.Choice.{pick, orElse}
 use Rattle.wire.specs.Buffers.{put}
 use Rattle.daylog.specs.declared.record.Record.{Record}
 use Rattle.daylog.specs.Header.{headerOf}
 use Rattle.daylog.specs.Records.{recordOf}
+use Rattle.daylog.specs.Rows.{front, rowSize, rowsOf, isEnd}
 use Rattle.daylog.specs.Tables.{tablesOf}
+use Rattle.rules.specs.Kinds.{mostKinds}
+use Rattle.verdict.specs.Verdict.{findings, bookAfter}
 use Rattle.desk.specs.declared.state.State.the-variants.{Closed}
 use Rattle.desk.specs.Open.{handedFault}
-use Rattle.desk.specs.Cells.{cells}
-use Rattle.desk.specs.Findings.{findings, bookAfter}
 use Rattle.desk.specs.End.{rowFault}
-use Rattle.demands.specs.Counts.{timesOn}
+use Rattle.demands.specs.Counts.{dayVerdict}
 use Rattle.demands.specs.Calls.{openDay, takeRecord, endDay, numberIn, Desk, deskOf, Given, Gives, fullRoom}
 use Rattle.demands.specs.Paper.{dayIn, takeNumber}
-
--- ---- a log's parts
--- the header with its tables, as far as the log goes; the header alone where its numbers allow no tables
-unfoldable pub frontSize : List ℕ → ℕ
-frontSize log =
-    let h = headerOf log in
-    pick (within 1 32 (h .contracts) && within 1 512 (h .accounts)) (16 + 8 * h .contracts + 8 * h .accounts) 16
-
-abbrev pub front : List ℕ → List ℕ
-front log = take (frontSize log) log
-
--- what comes after, in pieces of 20 bytes; the last may be shorter. `most` is no fewer than the pieces
-unfoldable pub pieces : (most : ℕ) → List ℕ → List (List ℕ)
-pieces zero s = []
-pieces (suc most) s = pick (eqb (length s) 0) [] (take 20 s ∷ pieces most (drop 20 s))
-
-abbrev pub rowsOf : List ℕ → List (List ℕ)
-rowsOf log = pieces (length log) (drop (frontSize log) log)
-
--- "A record of type 3 goes to the end call, any other to take."
-abbrev pub isEnd : List ℕ → Bool
-isEnd row = eqb (getD row 0 0) 3
 
 -- ---- by the calls: what the clerk makes of the rows, from a desk on which the day is open: number, and what is left
 pub data Reads : Desk → List (List ℕ) → ℕ → Desk → Type 0 where
   -- "a cut-off log (1)": no end record, or a record that is cut off
   stops : {w : Desk} → Reads w [] 1 w
-  cut : {w : Desk} {row : List ℕ} {more : List (List ℕ)} → eqb (length row) 20 ≡ false → Reads w (row ∷ more) 1 w
+  cut : {w : Desk} {row : List ℕ} {more : List (List ℕ)} → eqb (length row) (rowSize (w .log)) ≡ false → Reads w (row ∷ more) 1 w
   takes : {w w′ : Desk} {row : List ℕ} {more : List (List ℕ)} {g : Given} {n : ℕ}
-      → eqb (length row) 20 ≡ true → isEnd row ≡ false
+      → eqb (length row) (rowSize (w .log)) ≡ true → isEnd row ≡ false
       → Gives w (takeRecord row) g → numberIn (g .reply) ≡ 0 → Reads (g .after) more n w′ → Reads w (row ∷ more) n w′
   take-refused : {w : Desk} {row : List ℕ} {more : List (List ℕ)} {g : Given}
-      → eqb (length row) 20 ≡ true → isEnd row ≡ false
+      → eqb (length row) (rowSize (w .log)) ≡ true → isEnd row ≡ false
       → Gives w (takeRecord row) g → (numberIn (g .reply) ≡ 0 → ⊥)
       → Reads w (row ∷ more) (numberIn (g .reply)) (g .after)
   end-refused : {w : Desk} {row : List ℕ} {more : List (List ℕ)} {g : Given}
-      → eqb (length row) 20 ≡ true → isEnd row ≡ true
+      → eqb (length row) (rowSize (w .log)) ≡ true → isEnd row ≡ true
       → Gives w (endDay row) g → (numberIn (g .reply) ≡ 0 → ⊥)
       → Reads w (row ∷ more) (numberIn (g .reply)) (g .after)
-  ends : {w : Desk} {row : List ℕ} {g : Given} → eqb (length row) 20 ≡ true → isEnd row ≡ true
+  ends : {w : Desk} {row : List ℕ} {g : Given} → eqb (length row) (rowSize (w .log)) ≡ true → isEnd row ≡ true
       → Gives w (endDay row) g → numberIn (g .reply) ≡ 0 → Reads w (row ∷ []) 0 (g .after)
   -- "bytes after the end record (1, only where the end itself is accepted)"
   follows : {w : Desk} {row next : List ℕ} {more : List (List ℕ)} {g : Given}
-      → eqb (length row) 20 ≡ true → isEnd row ≡ true
+      → eqb (length row) (rowSize (w .log)) ≡ true → isEnd row ≡ true
       → Gives w (endDay row) g → numberIn (g .reply) ≡ 0 → Reads w (row ∷ next ∷ more) 1 (g .after)
 
--- "It reads the book from the file .. and has 12,288 counts of its own, all zero at the start"
+-- "It .. has 12,288 counts of its own, all zero at the start": enough for every rulebook
+abbrev pub clerkCounts : ℕ
+clerkCounts = 4096 * mostKinds
+
+-- "It reads the book from the file"
 abbrev pub clerkDesk : List ℕ → Desk
-clerkDesk book = deskOf Closed [] (replicate cells 0) book (replicate fullRoom 0)
+clerkDesk book = deskOf Closed [] (replicate clerkCounts 0) book (replicate fullRoom 0)
 
 pub data Judges (book log : List ℕ) : ℕ → Desk → Type 0 where
   open-refused : {g : Given} → Gives (clerkDesk book) (openDay (front log)) g → (numberIn (g .reply) ≡ 0 → ⊥)
@@ -94,24 +77,22 @@ followFault (next ∷ more) = 1
 unfoldable pub rowsNumber : List ℕ → List Record → List (List ℕ) → ℕ
 rowsNumber tables rs [] = 1
 rowsNumber tables rs (row ∷ more) =
-    pick (not (eqb (length row) 20)) 1
+    pick (not (eqb (length row) (rowSize tables))) 1
     (pick (isEnd row) (orElse (rowFault (dayIn tables rs) row) (followFault more))
     (orElse (takeNumber tables rs row) (rowsNumber tables (recordOf row ∷ rs) more)))
 
 -- opening comes before the rows
 unfoldable pub logNumber : (book log : List ℕ) → ℕ
-logNumber book log = orElse (handedFault (front log) book cells) (rowsNumber (front log) [] (rowsOf log))
+logNumber book log = orElse (handedFault (front log) book clerkCounts) (rowsNumber (front log) [] (rowsOf log))
 
 -- the findings as bytes, and the book after the day
 abbrev pub dayFindings : (book log : List ℕ) → List ℕ
 dayFindings book log =
-    let t = tablesOf (front log) in
-    findings t (headerOf (front log) .date) book (timesOn t (recordsIn [] (rowsOf log)))
+    findings (dayVerdict (tablesOf (front log)) (recordsIn [] (rowsOf log))) (headerOf (front log) .date) book
 
 abbrev pub dayBook : (book log : List ℕ) → List ℕ
 dayBook book log =
-    let t = tablesOf (front log) in
-    bookAfter t (headerOf (front log) .date) book (timesOn t (recordsIn [] (rowsOf log)))
+    bookAfter (dayVerdict (tablesOf (front log)) (recordsIn [] (rowsOf log))) (headerOf (front log) .date) book
 
 -- the file after a log: the day's book where the log is accepted, and else as it was
 unfoldable pub ruledFile : List ℕ → List ℕ → List ℕ

@@ -1,26 +1,32 @@
 -- The same steps by the rules alone: an open day is the list of the records that it took. No cells.
-use Prim.Native.Nat.{ℕ, _+_, _*_}
+use Prim.Native.Nat.{ℕ, _+_}
 use mathlib.Core.Bool.{not}
 use mathlib.Core.List.{List, [], _∷_, map}
-use lib.Dec.{leb, ltb, eqb}
+use lib.Dec.{leb, eqb}
 use lib.ListN.{length}
 use Rattle.wire.specs.Choice.{pick, orElse}
-use Rattle.wire.specs.Buffers.{put}
-use Rattle.book.specs.Fresh.{freshAnswer, freshBook}
-use Rattle.book.specs.Ask.{askAnswer}
+use Rattle.wire.specs.Answers.{answered}
+use Rattle.book.specs.declared.fresh.NewBook.the-variants.{Made, Refused as NotMade}
+use Rattle.book.specs.Fits.{bookFault}
 use Rattle.daylog.specs.declared.record.Record.{Record}
 use Rattle.daylog.specs.Header.{headerOf}
 use Rattle.daylog.specs.Records.{recordOf}
+use Rattle.daylog.specs.Rows.{rowSize}
 use Rattle.daylog.specs.Tables.{tablesOf}
 use Rattle.desk.specs.declared.state.Day.{Day}
 use Rattle.desk.specs.declared.state.State.the-variants.{Closed, Open}
 use Rattle.desk.specs.declared.end.Ended.the-variants.{Done, Refused}
-use Rattle.desk.specs.Answers.{answered}
-use Rattle.desk.specs.Judging.{tableFault}
-use Rattle.desk.specs.Open.{bookFault, handedFault}
-use Rattle.desk.specs.Findings.{findings, bookAfter, foundCount}
+use Rattle.verdict.specs.Verdict.{foundCount}
+use Rattle.verdict.specs.Settle.{shortFault, written}
+use Rattle.desk.specs.declared.state.State.{State}
+use Rattle.desk.specs.declared.state.Answer.{Answer}
+use Rattle.desk.specs.declared.state.Answer.the-variants.{Done as Moved, Refused as NotMoved}
+use Rattle.desk.specs.Books.{freshFault, askAnswer}
+use Rattle.desk.specs.Counting.{fieldsFault}
+use Rattle.desk.specs.Open.{handedFault}
 use Rattle.desk.specs.End.{rowFault}
-use Rattle.demands.specs.Counts.{timesOn}
+use Rattle.demands.specs.Counts.{dayVerdict}
+use Rattle.demands.specs.Days.{blank}
 use Rattle.demands.specs.Calls.{Step, makeBook, openDay, takeRecord, endDay, abandonDay, askBook, lendFindings, Reply, made, moved, ended, told, lent, numberIn}
 
 -- no day is open, or one is, with its tables as bytes and the records that it took, the latest first
@@ -33,7 +39,7 @@ pub record Paper : Type 0 where
   pub course : Course
   pub book : List ℕ
   pub out : List ℕ
-  pub room : ℕ
+  pub len : ℕ
 
 -- the answer to a call, and what it leaves
 pub record Ruled : Type 0 where
@@ -47,67 +53,73 @@ dayIn log rs = record { head = headerOf log; taken = length rs }
 -- ---- the refusals. "Take: 10, 1, .. 11, 12, 13, 14": of its own doing, 16 and 19 never come
 unfoldable pub takeNumber : List ℕ → List Record → List ℕ → ℕ
 takeNumber log rs row =
-    pick (not (eqb (length row) 20)) 1
-    (orElse (tableFault (tablesOf log) (recordOf row)) (pick (leb 1000000 (length rs)) 14 0))
+    pick (not (eqb (length row) (rowSize log))) 1
+    (orElse (fieldsFault (tablesOf log) (recordOf row)) (pick (leb 1000000 (length rs)) 14 0))
 
 -- "End: 10, 1, .. 11, 15, 17, 18, 9, .. 20"
 unfoldable pub endRefusal : List ℕ → List Record → (row book : List ℕ) → ℕ → ℕ
 endRefusal log rs row book room =
-    pick (not (eqb (length row) 20)) 1
+    pick (not (eqb (length row) (rowSize log))) 1
     (orElse (rowFault (dayIn log rs) row)
-    (orElse (bookFault (headerOf log) book)
-    (pick (ltb room (8 * foundCount (tablesOf log) (timesOn (tablesOf log) rs))) 20
-    0)))
+    (orElse (bookFault (headerOf log .rulebook) (headerOf log .date) book)
+    (shortFault (dayVerdict (tablesOf log) rs) room)))
 
 -- ---- what is left where the number is 0, and where it is not
+-- an answer that moves the state
+abbrev pub movedBy : ℕ → State → Answer
+movedBy fault next = answered fault (Moved next) NotMoved
+
+-- a fresh book, or the buffer as it was
+unfoldable pub freshBook : List ℕ → (rulebook : ℕ) → List ℕ
+freshBook book rulebook = pick (eqb (freshFault (length book) rulebook) 0) (blank rulebook) book
+
 abbrev pub resting : Paper → (book out : List ℕ) → Paper
-resting p book out = record { course = idle; book = book; out = out; room = p .room }
+resting p book out = record { course = idle; book = book; out = out; len = p .len }
 
 abbrev pub at : Paper → Course → Paper
-at p course = record { course = course; book = p .book; out = p .out; room = p .room }
+at p course = record { course = course; book = p .book; out = p .out; len = p .len }
 
 unfoldable pub openRuled : Paper → List ℕ → ℕ → Ruled
 openRuled p log fault =
-    record { reply = moved (answered fault (Open (dayIn log []))); after = pick (eqb fault 0) (at p (during log [])) p }
+    record { reply = moved (movedBy fault (Open (dayIn log []))); after = pick (eqb fault 0) (at p (during log [])) p }
 
 unfoldable pub takeRuled : Paper → List ℕ → List Record → List ℕ → ℕ → Ruled
 takeRuled p log rs row fault = record {
-  reply = moved (answered fault (Open (record { head = headerOf log; taken = length rs + 1 })));
+  reply = moved (movedBy fault (Open (record { head = headerOf log; taken = length rs + 1 })));
   after = pick (eqb fault 0) (at p (during log (recordOf row ∷ rs))) p;
 }
 
 -- "Ending writes the book (totals, last date), closes the day .. and writes findings from the buffer's start"
 unfoldable pub endRuled : Paper → List ℕ → List Record → ℕ → Ruled
 endRuled p log rs fault =
-    let t = tablesOf log in
-    let date = headerOf log .date in
-    let counted = timesOn t rs in record {
-      reply = ended (pick (eqb fault 0) (Done Closed (foundCount t counted)) (Refused fault));
-      after = pick (eqb fault 0)
-          (resting p (bookAfter t date (p .book) counted) (put (p .out) 0 (findings t date (p .book) counted))) p;
+    let v = dayVerdict (tablesOf log) rs in
+    let buffers = written v (headerOf log .date) (p .book) (p .out) in record {
+      reply = ended (answered fault (Done Closed (foundCount v)) Refused);
+      after = pick (eqb fault 0) (resting p (buffers .0) (buffers .1)) p;
     }
 
 -- "10: a day is open for open; none is for take, end, abandon"
 abbrev pub no10 : Paper → Ruled
-no10 p = record { reply = moved (answered 10 Closed); after = p }
+no10 p = record { reply = moved (movedBy 10 Closed); after = p }
 
 -- ---- each step
 unfoldable pub rule : Paper → Course → Step → Ruled
-rule p course (makeBook rulebook) = record {
-  reply = made (freshAnswer (p .book) rulebook);
-  after = record { course = p .course; book = freshBook (p .book) rulebook; out = p .out; room = p .room };
-}
+rule p course (makeBook rulebook) =
+    let fault = freshFault (length (p .book)) rulebook in record {
+      reply = made (answered fault Made NotMade);
+      after = record { course = p .course; book = freshBook (p .book) rulebook; out = p .out; len = p .len };
+    }
 rule p course (lendFindings out) =
-    record { reply = lent; after = record { course = p .course; book = p .book; out = out; room = p .room } }
+    record { reply = lent; after = record { course = p .course; book = p .book; out = out; len = p .len } }
 rule p course (askBook group kind family) = record { reply = told (askAnswer (p .book) group kind family); after = p }
-rule p idle (openDay log) = openRuled p log (handedFault log (p .book) (p .room))
+rule p idle (openDay log) = openRuled p log (handedFault log (p .book) (p .len))
 rule p idle (takeRecord row) = no10 p
 rule p idle (endDay row) = record { reply = ended (Refused 10); after = p }
 rule p idle abandonDay = no10 p
 rule p (during log rs) (openDay other) = no10 p
 rule p (during log rs) (takeRecord row) = takeRuled p log rs row (takeNumber log rs row)
 rule p (during log rs) (endDay row) = endRuled p log rs (endRefusal log rs row (p .book) (length (p .out)))
-rule p (during log rs) abandonDay = record { reply = moved (answered 0 Closed); after = at p idle }
+rule p (during log rs) abandonDay = record { reply = moved (movedBy 0 Closed); after = at p idle }
 
 -- a list of steps
 unfoldable pub rules : Paper → List Step → List Ruled

@@ -9,9 +9,11 @@ use lib.ListN.{getD}
 use Rattle.wire.specs.Choice.{pick}
 use Rattle.calendar.specs.Dates.{year}
 use Rattle.rules.specs.Ladders.{rung, sanction}
-use Rattle.book.specs.Layout.{ladders}
-use Rattle.desk.specs.Offences.{groupAt}
-use Rattle.desk.specs.Findings.{memberOn}
+use Rattle.rules.specs.Kinds.{kindsOf}
+use Rattle.book.specs.Shape.{rulebookOf}
+use Rattle.book.specs.Places.{ladders, groupAt, kindAt}
+use Rattle.daylog.specs.Tables.{memberOn}
+use Rattle.desk.specs.Offences.{kindsOn}
 use Rattle.demands.specs.Days.{PastDay, offenceOn, totalOver, foundOn}
 
 -- ---- days on a book, the latest first
@@ -19,7 +21,9 @@ use Rattle.demands.specs.Days.{PastDay, offenceOn, totalOver, foundOn}
 unfoldable pub sanctionOn : List ℕ → ℕ → PastDay → List PastDay → ℕ
 sanctionOn from ladder d before =
     let total = totalOver from (year (d .date)) ladder (d ∷ before) in
-    pick (offenceOn ladder d) (sanction (d .tables .rulebook) (rung total) (memberOn (d .tables) (groupAt ladder))) 0
+    let kinds = kindsOn (d .tables) in
+    pick (offenceOn ladder d)
+    (sanction (d .tables .text .rulebook) (kindAt kinds ladder) (rung total) (memberOn (d .tables) (groupAt kinds ladder))) 0
 
 abbrev pub noOpening : ℕ → Bool
 noOpening s = eqb s 3 || eqb s 5
@@ -38,5 +42,5 @@ restrictions = sanctions noOpening
 pub data Sanctioned (from : List ℕ) : List PastDay → Type 0 where
   none : Sanctioned from []
   more : {d : PastDay} {days : List PastDay}
-      → ((l : ℕ) → l < ladders → getD (foundOn from d days l) 3 0 ≡ sanctionOn from l d days)
+      → ((l : ℕ) → l < ladders (kindsOf (rulebookOf from)) → getD (foundOn from d days l) 3 0 ≡ sanctionOn from l d days)
       → Sanctioned from days → Sanctioned from (d ∷ days)

@@ -8,9 +8,11 @@ use lib.Dec.{eqb}
 use lib.ListN.{replicate}
 use Rattle.wire.specs.Choice.{pick}
 use Rattle.calendar.specs.Dates.{realDay}
+use Rattle.rules.specs.declared.measure.Lots.{Lots}
 use Rattle.rules.specs.Measure.{lots, large}
 use Rattle.rules.specs.Ladders.{rung}
-use Rattle.book.specs.Layout.{ladderOf}
+use Rattle.rules.specs.Kinds.{kindsOf}
+use Rattle.book.specs.Places.{ladderOf}
 use Rattle.book.specs.Sound.{sound}
 use Rattle.daylog.specs.declared.record.Record.{Record}
 use Rattle.daylog.specs.Tables.{Tables}
@@ -23,7 +25,7 @@ use Rattle.demands.specs.Samples.{futures, plainTrade, bookWithOne}
 -- accounts 11 and 12, clients of group 3
 unfoldable pub dayWith : (rulebook contracts largest : ℕ) → Tables
 dayWith rulebook contracts largest = record {
-  rulebook = rulebook;
+  text = record { rulebook = rulebook };
   contracts = contracts;
   contract = λ place. futures (101 + place) largest;
   accounts = 2;
@@ -85,22 +87,26 @@ cancelCounts rulebook amount largest kind =
 -- ---- and of a book
 -- a book of rulebook 1 with a last date and one total that is not 0, that of group 1, kind 1, family 0
 abbrev pub bookWith : (date total : ℕ) → List ℕ
-bookWith date total = bookWithOne (ladderOf 1 1 0) date total
+bookWith date total = bookWithOne (ladderOf (kindsOf 1) 1 1 0) date total
+
+-- ---- and of an amount: large by a rulebook's text
+abbrev pub largeIn : ℕ → Lots → Lots → Bool
+largeIn rulebook = large (record { rulebook = rulebook })
 
 -- ---- the table
 unfoldable pub starred : List Bool
 starred =
     -- "Large, rulebook 1, largest 1000: 800 no, 801 yes."
-    not (large 1 (lots 800) (lots 1000))
-    ∷ large 1 (lots 801) (lots 1000)
+    not (largeIn 1 (lots 800) (lots 1000))
+    ∷ largeIn 1 (lots 801) (lots 1000)
     -- "Rulebook 2, largest 50: 39 no, 40 yes."
-    ∷ not (large 2 (lots 39) (lots 50))
-    ∷ large 2 (lots 40) (lots 50)
+    ∷ not (largeIn 2 (lots 39) (lots 50))
+    ∷ largeIn 2 (lots 40) (lots 50)
     -- "Largest 9, 7 lots, rulebook 2: no."
-    ∷ not (large 2 (lots 7) (lots 9))
+    ∷ not (largeIn 2 (lots 7) (lots 9))
     -- "Largest 1, 1 lot: yes in both."
-    ∷ large 1 (lots 1) (lots 1)
-    ∷ large 2 (lots 1) (lots 1)
+    ∷ largeIn 1 (lots 1) (lots 1)
+    ∷ largeIn 2 (lots 1) (lots 1)
     -- "Self-trades 4 no, 5 yes."
     ∷ not (selfTrades 1 4)
     ∷ selfTrades 1 5

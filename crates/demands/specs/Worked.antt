@@ -7,12 +7,12 @@ use mathlib.Core.List.{List, [], _∷_, _++_, map}
 use Prim.Native.Nat.{ℕ}
 use lib.ListN.{take, drop, replicate}
 use Rattle.wire.specs.Buffers.{put}
-use Rattle.book.specs.Layout.{ladderOf}
-use Rattle.desk.specs.declared.end.Ended.the-variants.{Done, Refused}
-use Rattle.desk.specs.Cells.{cells}
+use Rattle.rules.specs.Kinds.{kindsOf}
+use Rattle.book.specs.Places.{ladderOf}
+use Rattle.desk.specs.End.{endFound}
 use Rattle.demands.specs.Samples.{bookWithOne}
 use Rattle.demands.specs.Calls.{Step, makeBook, openDay, takeRecord, endDay, abandonDay, askBook, lendFindings, Reply, made, moved, ended, told, lent, Desk, Given, numbers, Ran, left, fullRoom}
-use Rattle.demands.specs.Logs.{clerkDesk}
+use Rattle.demands.specs.Logs.{clerkCounts, clerkDesk}
 use Rattle.demands.specs.Paper.{idle, during, Paper, numbersOn, paperAfter}
 
 -- ---- the bytes
@@ -58,7 +58,7 @@ endRow n = 0x03 ∷ 0x00 ∷ 0x00 ∷ 0x00 ∷ n ∷ replicate 15 0x00
 
 -- a book of rulebook 1 with a last date, and a total of "group 3 .. for kind 1 family 0"; all others are 0
 abbrev pub workedBook : (date total : ℕ) → List ℕ
-workedBook date total = bookWithOne (ladderOf 3 1 0) date total
+workedBook date total = bookWithOne (ladderOf (kindsOf 1) 3 1 0) date total
 
 -- ---- the calls
 -- the clerk's buffers with "the book's last date is 20240304 and group 3 has total 1 for kind 1 family 0"; no day is
@@ -86,13 +86,12 @@ unfoldable pub workedFinding : List ℕ
 workedFinding = 3 ∷ 1 ∷ 0 ∷ 2 ∷ 2 ∷ 0 ∷ 101 ∷ 0 ∷ []
 
 -- how many findings an answer tells of: only that of ending does
-abbrev pub foundIn : Reply → ℕ
-foundIn (made a) = 0
-foundIn (moved a) = 0
-foundIn (ended (Done state found)) = found
-foundIn (ended (Refused number)) = 0
-foundIn (told a) = 0
-foundIn lent = 0
+abbrev pub foundBy : Reply → ℕ
+foundBy (made a) = 0
+foundBy (moved a) = 0
+foundBy (ended a) = endFound a
+foundBy (told a) = 0
+foundBy lent = 0
 
 -- the calls have answers
 pub record Worked : Type 0 where
@@ -101,7 +100,7 @@ pub record Worked : Type 0 where
   -- none of which is a refusal
   pub numbered : numbers given ≡ 0 ∷ 0 ∷ 0 ∷ 0 ∷ 0 ∷ 0 ∷ 0 ∷ []
   -- "findings 1": the last tells of one
-  pub count : map (λ g. foundIn (g .reply)) given ≡ 0 ∷ 0 ∷ 0 ∷ 0 ∷ 0 ∷ 0 ∷ 1 ∷ []
+  pub count : map (λ g. foundBy (g .reply)) given ≡ 0 ∷ 0 ∷ 0 ∷ 0 ∷ 0 ∷ 0 ∷ 1 ∷ []
   -- it stands from the buffer's start, and "Bytes past them stay"
   pub findings : left workedDesk given .out ≡ put (replicate fullRoom 0) 0 workedFinding
   -- the book has the day's date, and total 2 for that group, kind and family alone
@@ -110,7 +109,7 @@ pub record Worked : Type 0 where
 -- ---- refusals between
 -- no day is open, and the book has no bytes
 unfoldable pub noBook : Paper
-noBook = record { course = idle; book = []; out = []; room = cells }
+noBook = record { course = idle; book = []; out = []; len = clerkCounts }
 
 -- the example's tables with a book's mark, "AXB"
 unfoldable pub wrongMark : List ℕ
@@ -125,7 +124,7 @@ noBookSteps =
 
 -- the day is open and took no record yet, on any book and buffers
 unfoldable pub justOpened : Paper → Paper
-justOpened p = record { course = during workedTables []; book = p .book; out = p .out; room = p .room }
+justOpened p = record { course = during workedTables []; book = p .book; out = p .out; len = p .len }
 
 -- each call's refusal, and between them one record that is taken and the day abandoned
 unfoldable pub openSteps : List Step
@@ -142,7 +141,7 @@ openSteps =
 
 -- the example's book and counts, and a findings buffer of 7 bytes
 unfoldable pub shortOut : Paper
-shortOut = record { course = idle; book = workedBook 20240304 1; out = replicate 7 0; room = cells }
+shortOut = record { course = idle; book = workedBook 20240304 1; out = replicate 7 0; len = clerkCounts }
 
 -- the example with a record of type 3 among the trades, 11; its end refused for the room, 20, and accepted once a
 -- buffer of 8 bytes is lent; then 10, none is open

@@ -4,7 +4,9 @@ use mathlib.Core.Path.{_≡_}
 use mathlib.Core.List.{List, [], _∷_, _++_}
 use Prim.Native.Nat.{ℕ, _+_}
 use lib.ListN.{replicate}
-use Rattle.book.specs.Layout.{ladderOf, totalAt}
+use Rattle.rules.specs.Kinds.{kindsOf}
+use Rattle.book.specs.Places.{ladderOf}
+use Rattle.book.specs.Layout.{totalAt}
 use Rattle.demands.specs.Days.{blank}
 use Rattle.demands.specs.Calls.{Step, takeRecord, Desk, Given, numbers, left}
 use Rattle.demands.specs.Logs.{clerkDesk}
@@ -45,7 +47,7 @@ yearJoined = yearWith (joinLog 3 4 (yearTables 2 3)) (joinLog 3 4 (yearTables 3 
 
 -- the total of a group's self-trades in family 0
 abbrev pub selfTotal : (book : List ℕ) (group : ℕ) → ℕ
-selfTotal book group = totalAt book (ladderOf group 1 0)
+selfTotal book group = totalAt book (ladderOf (kindsOf 1) group 1 0)
 
 -- the calls of both years have answers, and these are a run of demand 3
 pub record WorkedYear : Type 0 where

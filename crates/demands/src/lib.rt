@@ -11,7 +11,7 @@ ghost use Rattle.demands.specs.Tied.{FreshTied, OpenTied, TakeTied, EndT
 fn fresh_tied(book: &mut [u8], rulebook: u64) -> NewBook
     ensures { λ a. ⌜ FreshTied (now (book .entry)) rulebook a (now (book .exit)) ⌝ }
 {
-    book::fresh::fresh(book, rulebook)
+    desk::books::fresh(book, rulebook)
 }
 
 fn open_tied(state: State, log: &[u8], book: &[u8], counts: &mut [u32]) -> Answer
@@ -52,7 +52,7 @@ fn abandon_tied(state: State) -> Answer
 fn ask_tied(book: &[u8], group: u64, kind: u64, family: u64) -> Asked
     ensures { λ a. ⌜ AskTied (now (book .entry)) group kind family a ⌝ }
 {
-    book::ask::ask(book, group, kind, family)
+    desk::books::ask(book, group, kind, family)
 }
 
 // There is nothing to do: its contract is that every statement has its theorem.

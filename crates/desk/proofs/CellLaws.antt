@@ -9,8 +9,9 @@ use lib.ListN.{getD, set}
 use borrow.Author.Tests.{ltb-false}
 use Rattle.wire.specs.Choice.{pick}
 use Rattle.wire.proofs.ChoiceLaws.{or-left, or-right}
+use Rattle.rules.specs.declared.kinds.Kinds.{Kinds}
 use Rattle.desk.specs.declared.judge.Plan.{Plan}
-use Rattle.desk.specs.Counting.{counted}
+use Rattle.desk.specs.Counting.{countsAs}
 use Rattle.desk.specs.Cells.{cellFor, cellChanged, cellsChanged, bumped, raisedFor, Small}
 
 -- a store of at most m leaves every cell at most m
@@ -21,50 +22,78 @@ set-le (x ∷ xs) zero (suc j) v m p h = h
 set-le (x ∷ xs) (suc i) zero v m p h = h
 set-le (x ∷ xs) (suc i) (suc j) v m p h = set-le xs i j v m p h
 
-bump-le : (b : Bool) (i j m : ℕ) (c : List ℕ) → (b ≡ true → getD c i 0 ≤ m) → getD c j 0 ≤ m → getD (bumped b i c) j 0 ≤ m + 1
+-- one more in a cell of at most m leaves every cell of at most m at most m + 1
+bump-le : (b : Bool) (i j m : ℕ) (c : List ℕ) → (b ≡ true → getD c i 0 ≤ m) → getD c j 0 ≤ m
+    → getD (bumped b i c) j 0 ≤ m + 1
 unfolding bumped pick
-bump-le true i j m c p h = let q : getD c i 0 ≤ m = p refl in set-le c i j (getD c i 0 + 1) (m + 1) (omega arith) (omega arith)
+bump-le true i j m c p h =
+    let q : getD c i 0 ≤ m = p refl in
+    set-le c i j (getD c i 0 + 1) (m + 1) (omega arith) (omega arith)
 bump-le false i j m c p h = omega arith
 
+-- a test that is not met together with one that is met is not met
 and-then : (a b : Bool) → a && b ≡ false → a ≡ true → b ≡ false
 and-then true b e h = e
 and-then false b e h = cc
 
-module _ (p : Plan) (c : List ℕ) where
+module _ (kinds : Kinds) (p : Plan) (c : List ℕ) where
   -- raising the cell of one kind makes that of another one more at most
-  small-more : (m k j : ℕ) → Small m p c k → Small m p c j → Small (m + 1) p (raisedFor p k c) j
+  small-more : (m k j : ℕ) → Small m kinds p c k → Small m kinds p c j
+      → Small (m + 1) kinds p (raisedFor kinds p k c) j
   unfolding Small raisedFor
-  small-more m k j h q e = bump-le (counted p k) (cellFor p k) (cellFor p j) m c h (q e)
+  small-more m k j h q e = bump-le (countsAs p k) (cellFor kinds p k) (cellFor kinds p j) m c h (q e)
 
-  small-up : (m n k : ℕ) → m ≤ n → Small m p c k → Small n p c k
+  -- a larger bound bounds as well
+  small-up : (m n k : ℕ) → m ≤ n → Small m kinds p c k → Small n kinds p c k
   unfolding Small
-  small-up m n k l h e = let q : getD c (cellFor p k) 0 ≤ m = h e in omega arith
+  small-up m n k l h e = let q : getD c (cellFor kinds p k) 0 ≤ m = h e in omega arith
 
-  unchanged : (n k : ℕ) → cellChanged n p c k ≡ false → Small n p c k
+  -- a cell that would be raised and is not changed stands at the records taken at most
+  unchanged : (n k : ℕ) → cellChanged kinds n p c k ≡ false → Small n kinds p c k
   unfolding Small cellChanged
-  unchanged n k e h = ltb-false n (getD c (cellFor p k) 0) (and-then (counted p k) (ltb n (getD c (cellFor p k) 0)) e h)
+  unchanged n k e h =
+      let stands = getD c (cellFor kinds p k) 0 in
+      ltb-false n stands (and-then (countsAs p k) (ltb n stands) e h)
 
 -- what each of the three raises asks, where no cell is changed and the day is not full
-module _ (n : ℕ) (p : Plan) (c : List ℕ) (few : n < 1000000) (e : cellsChanged n p c ≡ false) where
-  small-1 : Small n p c 1
+module _ (kinds : Kinds) (n : ℕ) (p : Plan) (c : List ℕ) (few : n < 1000000)
+    (e : cellsChanged kinds n p c ≡ false) where
+  -- the cell of one kind is changed
+  abbrev changed : ℕ → Bool
+  changed = cellChanged kinds n p c
+
+  -- neither the first nor the second is changed
+  first-two : changed 1 || changed 2 ≡ false
   unfolding cellsChanged
-  small-1 = unchanged p c n 1 (or-left (cellChanged n p c 1) (cellChanged n p c 2) (or-left (cellChanged n p c 1 || cellChanged n p c 2) (cellChanged n p c 3) e))
+  first-two = or-left (changed 1 || changed 2) (changed 3) e
 
-  small-2 : Small n p c 2
+  -- so before the raises each cell stands at the records taken at most
+  small-1 : Small n kinds p c 1
+  small-1 = unchanged kinds p c n 1 (or-left (changed 1) (changed 2) first-two)
+
+  small-2 : Small n kinds p c 2
+  small-2 = unchanged kinds p c n 2 (or-right (changed 1) (changed 2) first-two)
+
+  small-3 : Small n kinds p c 3
   unfolding cellsChanged
-  small-2 = unchanged p c n 2 (or-right (cellChanged n p c 1) (cellChanged n p c 2) (or-left (cellChanged n p c 1 || cellChanged n p c 2) (cellChanged n p c 3) e))
+  small-3 = unchanged kinds p c n 3 (or-right (changed 1 || changed 2) (changed 3) e)
 
-  small-3 : Small n p c 3
-  unfolding cellsChanged
-  small-3 = unchanged p c n 3 (or-right (cellChanged n p c 1 || cellChanged n p c 2) (cellChanged n p c 3) e)
+  -- the counts after the first raise, and after the second
+  abbrev once : List ℕ
+  once = raisedFor kinds p 1 c
 
-  pub ready-1 : Small 4294967294 p c 1
-  ready-1 = small-up p c n 4294967294 1 (omega arith) small-1
+  abbrev twice : List ℕ
+  twice = raisedFor kinds p 2 once
 
-  pub ready-2 : Small 4294967294 p (raisedFor p 1 c) 2
-  ready-2 = small-up p (raisedFor p 1 c) (n + 1) 4294967294 2 (omega arith) (small-more p c n 1 2 small-1 small-2)
+  -- and each raise before adds one at most: a cell is far from wrapping
+  pub ready-1 : Small 4294967294 kinds p c 1
+  ready-1 = small-up kinds p c n 4294967294 1 (omega arith) small-1
 
-  pub ready-3 : Small 4294967294 p (raisedFor p 2 (raisedFor p 1 c)) 3
+  pub ready-2 : Small 4294967294 kinds p once 2
+  ready-2 = small-up kinds p once (n + 1) 4294967294 2 (omega arith) (small-more kinds p c n 1 2 small-1 small-2)
+
+  pub ready-3 : Small 4294967294 kinds p twice 3
   ready-3 =
-      small-up p (raisedFor p 2 (raisedFor p 1 c)) (n + 1 + 1) 4294967294 3 (omega arith)
-      (small-more p (raisedFor p 1 c) (n + 1) 2 3 (small-more p c n 1 2 small-1 small-2) (small-more p c n 1 3 small-1 small-3))
+      let second = small-more kinds p c n 1 2 small-1 small-2 in
+      let third = small-more kinds p c n 1 3 small-1 small-3 in
+      small-up kinds p twice (n + 1 + 1) 4294967294 3 (omega arith) (small-more kinds p once (n + 1) 2 3 second third)

@@ -1,12 +1,10 @@
 pub mod Counting
-pub mod Judging
 pub mod Cells
-pub mod Tables
 pub mod Answers
-pub mod Take
+pub mod Books
 pub mod Open
+pub mod Take
 pub mod Abandon
 pub mod Offences
-pub mod Findings
 pub mod End
-pub mod Listing
+pub mod Way

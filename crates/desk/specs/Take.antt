@@ -5,25 +5,30 @@ use mathlib.Core.List.{List}
 use lib.Dec.{leb, ltb, eqb}
 use lib.ListN.{length}
 use Rattle.wire.specs.Choice.{pick, orElse}
+use Rattle.wire.specs.Answers.{answered}
 use Rattle.daylog.specs.declared.record.Record.{Record}
-use Rattle.daylog.specs.Records.{recordOf}
+use Rattle.daylog.specs.Header.{headerOf}
+use Rattle.daylog.specs.Records.{recordLength, recordOf}
 use Rattle.daylog.specs.Tables.{Tables, tablesOf}
+use Rattle.daylog.specs.Changed.{tablesChanged}
+use Rattle.book.specs.Places.{cells}
 use Rattle.desk.specs.declared.state.Day.{Day}
 use Rattle.desk.specs.declared.state.State.{State}
 use Rattle.desk.specs.declared.state.State.the-variants.{Closed, Open}
 use Rattle.desk.specs.declared.state.Answer.{Answer}
 use Rattle.desk.specs.declared.judge.Plan.{Plan}
-use Rattle.desk.specs.Counting.{planOf}
-use Rattle.desk.specs.Judging.{tableFault}
-use Rattle.desk.specs.Cells.{cells, cellsChanged, raised}
-use Rattle.desk.specs.Tables.{tablesChanged}
+use Rattle.desk.specs.declared.judge.Weighed.{Weighed}
+use Rattle.desk.specs.declared.judge.Weighed.the-variants.{Counts, Refused}
+use Rattle.desk.specs.Counting.{planOf, fieldsFault}
+use Rattle.desk.specs.Cells.{cellsChanged, raised}
+use Rattle.desk.specs.Open.{kindsFor}
 use Rattle.desk.specs.Answers.{Moves}
 
 -- what the call is handed: "1: a record not 20"; "16: counts buffer under 12,288"; "19: changed since opening"
-unfoldable pub callFault : Day → List ℕ → List ℕ → ℕ → ℕ
-callFault day log row room =
-    pick (not (eqb (length row) 20)) 1
-    (pick (ltb room cells) 16
+unfoldable pub callFault : Day → (log row : List ℕ) → (len : ℕ) → ℕ
+callFault day log row len =
+    pick (not (eqb (length row) (recordLength (day .head .version)))) 1
+    (pick (ltb len (cells (kindsFor (day .head)))) 16
     (pick (tablesChanged (day .head) log) 19
     0))
 
@@ -31,18 +36,37 @@ callFault day log row room =
 unfoldable pub planFault : Day → Plan → List ℕ → ℕ
 planFault day p c =
     pick (leb 1000000 (day .taken)) 14
-    (pick (cellsChanged (day .taken) p c) 19
+    (pick (cellsChanged (kindsFor (day .head)) (day .taken) p c) 19
     0)
 
 -- 11, 12, 13, then 14 and 19
 unfoldable pub recordFault : Day → Tables → Record → List ℕ → ℕ
-recordFault day t r c = orElse (tableFault t r) (planFault day (planOf t r) c)
+recordFault day t r c = orElse (fieldsFault t r) (planFault day (planOf t r) c)
+
+-- of an open day
+unfoldable pub dayFault : Day → (log row c : List ℕ) → ℕ
+dayFault day log row c =
+    orElse (callFault day log row (length c)) (recordFault day (tablesOf log) (recordOf row) c)
 
 -- the number of the refusal, or 0
-unfoldable pub takeFault : State → List ℕ → List ℕ → List ℕ → ℕ
+unfoldable pub takeFault : State → (log row c : List ℕ) → ℕ
 takeFault Closed log row c = 10
-takeFault (Open day) log row c =
-    orElse (callFault day log row (length c)) (recordFault day (tablesOf log) (recordOf row) c)
+takeFault (Open day) log row c = dayFault day log row c
+
+-- what the record in a row counts for on the day of a log
+abbrev pub planIn : (log row : List ℕ) → Plan
+planIn log row = planOf (tablesOf log) (recordOf row)
+
+-- what `would_take` gives: what the record would count for, or the refusal
+unfoldable pub wouldTake : State → (log row c : List ℕ) → Weighed
+wouldTake state log row c = answered (takeFault state log row c) (Counts (planIn log row)) Refused
+
+-- the same of its parts: a record of an open day, and one against tables
+unfoldable pub dayWeighed : Day → (log row c : List ℕ) → Weighed
+dayWeighed day log row c = answered (dayFault day log row c) (Counts (planIn log row)) Refused
+
+unfoldable pub recordWeighed : Day → Tables → Record → List ℕ → Weighed
+recordWeighed day t r c = answered (recordFault day t r c) (Counts (planOf t r)) Refused
 
 -- one more record is taken
 abbrev pub oneMore : Day → Day
@@ -54,12 +78,5 @@ takeNext (Open day) = Open (oneMore day)
 
 -- what `take` gives: the next state or the refusal, and the counts
 abbrev pub TakeGives : State → (log row c : List ℕ) → Answer → List ℕ → Type 0
-TakeGives state log row c answer c′ =
-    Moves (takeFault state log row c) (takeNext state) (raised (planOf (tablesOf log) (recordOf row)) c) c answer c′
-
--- the same of its parts: a record against tables, and a record that may be counted
-abbrev pub RecordGives : Day → Tables → Record → List ℕ → Answer → List ℕ → Type 0
-RecordGives day t r c answer c′ = Moves (recordFault day t r c) (Open (oneMore day)) (raised (planOf t r) c) c answer c′
-
-abbrev pub PlanGives : Day → Plan → List ℕ → Answer → List ℕ → Type 0
-PlanGives day p c answer c′ = Moves (planFault day p c) (Open (oneMore day)) (raised p c) c answer c′
+TakeGives state log row c =
+    Moves (takeFault state log row c) (takeNext state) (raised (kindsFor (headerOf log)) (planIn log row) c) c

@@ -1,28 +1,24 @@
 // The cells that a record raises.
 use crate::judge::Plan;
+use book::places::cell_of;
+use rules::kinds::Kinds;
 ghost use mathlib.Core.Path.{_≡_};
 ghost use mathlib.Core.Bool.{true, false};
-ghost use Prim.Native.Nat.{_<_, _-_};
+ghost use Prim.Native.Nat.{_<_};
 ghost use lib.ListN.{getD};
-ghost use Rattle.desk.specs.Counting.{counted};
+ghost use Rattle.desk.specs.Counting.{countsAs};
 ghost use Rattle.desk.specs.Cells.{cellFor, cellChanged, cellsChanged, bumped, raisedFor, raised, Small};
 
 fn counts_as(p: Plan, kind: u8) -> bool
-    ensures { λ a. ⌜ a ≡ counted p kind ⌝ }
+    ensures { λ a. ⌜ a ≡ countsAs p kind ⌝ }
 {
     ((kind == 1) & p.own) | ((kind == 2) & p.frequent) | ((kind == 3) & p.over)
 }
 
-fn less_one(x: u8) -> usize
-    ensures { λ a. ⌜ a ≡ x - 1 ⌝ }
+fn cell_for(kinds: Kinds, p: Plan, kind: u8) -> usize
+    ensures { λ a. ⌜ a ≡ cellFor kinds p kind ⌝ }
 {
-    if x == 0 { 0 } else { (x - 1) as usize }
-}
-
-fn cell_for(p: Plan, kind: u8) -> usize
-    ensures { λ a. ⌜ a ≡ cellFor p kind ⌝ }
-{
-    (less_one(p.group) * 3 + less_one(kind)) * 32 + (p.place as usize)
+    cell_of(kinds, p.group, kind, p.place)
 }
 
 fn count_at(c: &[u32], i: usize) -> u32
@@ -32,16 +28,18 @@ fn count_at(c: &[u32], i: usize) -> u32
 }
 
 // Whether the cell that is to be raised stands above the number of records taken.
-fn cell_changed(taken: u32, p: Plan, c: &[u32], kind: u8) -> bool
-    ensures { λ a. ⌜ a ≡ cellChanged taken p (now (c .entry)) kind ⌝ }
+fn cell_changed(kinds: Kinds, taken: u32, p: Plan, c: &[u32], kind: u8) -> bool
+    ensures { λ a. ⌜ a ≡ cellChanged kinds taken p (now (c .entry)) kind ⌝ }
 {
-    counts_as(p, kind) & (taken < count_at(c, cell_for(p, kind)))
+    counts_as(p, kind) & (taken < count_at(c, cell_for(kinds, p, kind)))
 }
 
-pub(crate) fn cells_changed(taken: u32, p: Plan, c: &[u32]) -> bool
-    ensures { λ a. ⌜ a ≡ cellsChanged taken p (now (c .entry)) ⌝ }
+pub(crate) fn cells_changed(kinds: Kinds, taken: u32, p: Plan, c: &[u32]) -> bool
+    ensures { λ a. ⌜ a ≡ cellsChanged kinds taken p (now (c .entry)) ⌝ }
 {
-    cell_changed(taken, p, c, 1) | cell_changed(taken, p, c, 2) | cell_changed(taken, p, c, 3)
+    cell_changed(kinds, taken, p, c, 1)
+        | cell_changed(kinds, taken, p, c, 2)
+        | cell_changed(kinds, taken, p, c, 3)
 }
 
 // One more in cell i, where the test holds.
@@ -56,21 +54,21 @@ fn bump(c: &mut [u32], raise: bool, i: usize)
     }
 }
 
-fn raise_for(p: Plan, kind: u8, c: &mut [u32])
-    requires { ⌜ Small 4294967294 p (now c) kind ⌝ }
-    ensures { λ _. ⌜ now (c .exit) ≡ raisedFor p kind (now (c .entry)) ⌝ }
+fn raise_for(kinds: Kinds, p: Plan, kind: u8, c: &mut [u32])
+    requires { ⌜ Small 4294967294 kinds p (now c) kind ⌝ }
+    ensures { λ _. ⌜ now (c .exit) ≡ raisedFor kinds p kind (now (c .entry)) ⌝ }
 {
     let raise = counts_as(p, kind);
-    let cell = cell_for(p, kind);
+    let cell = cell_for(kinds, p, kind);
     bump(c, raise, cell);
 }
 
 // Raises the cells of a record that is taken.
-pub(crate) fn raise(taken: u32, p: Plan, c: &mut [u32])
-    requires { ⌜ (taken < 1000000) × (cellsChanged taken p (now c) ≡ false) ⌝ }
-    ensures { λ _. ⌜ now (c .exit) ≡ raised p (now (c .entry)) ⌝ }
+pub(crate) fn raise(kinds: Kinds, taken: u32, p: Plan, c: &mut [u32])
+    requires { ⌜ (taken < 1000000) × (cellsChanged kinds taken p (now c) ≡ false) ⌝ }
+    ensures { λ _. ⌜ now (c .exit) ≡ raised kinds p (now (c .entry)) ⌝ }
 {
-    raise_for(p, 1, c);
-    raise_for(p, 2, c);
-    raise_for(p, 3, c);
+    raise_for(kinds, p, 1, c);
+    raise_for(kinds, p, 2, c);
+    raise_for(kinds, p, 3, c);
 }

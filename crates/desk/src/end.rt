@@ -1,20 +1,18 @@
 // Ending a day.
-use crate::findings::list_all;
 use crate::ladders::cells_good;
-use crate::ladders::count_hits;
-use crate::ladders::fill_families;
-use crate::ladders::fill_places;
 use crate::open::book_fault;
 use crate::state::Day;
 use crate::state::State;
 use crate::take::call_fault;
-use book::head::put_head;
-use book::raise::raise_group;
-use book::sound::last_date;
-use calendar::year_of;
-use daylog::header::Header;
-use wire::read::get8;
-use wire::read::get16;
+use crate::verdicts::judge_day;
+use crate::verdicts::settle_day;
+use book::places::MOST_LADDERS;
+use book::places::ladders_in;
+use daylog::header::text_of;
+use daylog::record::end_good;
+use rules::kinds::kinds_of;
+use verdict::count::count_found;
+use verdict::settle::Settled;
 use wire::read::get32;
 use wire::refusal::CHANGED;
 use wire::refusal::FIELDS;
@@ -24,13 +22,13 @@ use wire::refusal::WRONG_STATE;
 ghost use mathlib.Core.Path.{_≡_};
 ghost use Prim.Native.Nat.{_*_, _≤_};
 ghost use lib.ListN.{length};
-ghost use Rattle.wire.specs.Buffers.{put, rows};
+ghost use Rattle.rules.specs.Kinds.{kindsOf};
 ghost use Rattle.daylog.specs.Header.{headerOf};
-ghost use Rattle.daylog.specs.Sound.{Sound};
-ghost use Rattle.daylog.specs.Entries.{entries};
+ghost use Rattle.daylog.specs.GoodLog.{GoodLog};
 ghost use Rattle.daylog.specs.Tables.{tablesOf};
-ghost use Rattle.desk.specs.End.{endGood, rowFault, lentFault, countsFault, DayEnds, EndGives};
-ghost use Rattle.desk.specs.Listing.{familiesIn, placesIn, hits, totalBytes, DayWritten};
+ghost use Rattle.book.specs.Places.{ladders, cells, bookSize};
+ghost use Rattle.desk.specs.End.{rowFault, lentFault, cellsFault, countsFault, dayFound, wouldEnd, DayEnds, EndGives};
+ghost use Rattle.desk.specs.Way.{dayPlaces};
 
 pub enum Ended {
     // The closed state, and the number of findings.
@@ -38,16 +36,10 @@ pub enum Ended {
     Refused(u32),
 }
 
-// Type 3, and zero in all bytes but those of the number.
-fn end_good(row: &[u8]) -> bool
-    ensures { λ r. ⌜ r ≡ endGood (now (row .entry)) ⌝ }
-{
-    (get8(row, 0) == 3)
-        & (get8(row, 1) == 0)
-        & (get16(row, 2) == 0)
-        & (get32(row, 8) == 0)
-        & (get32(row, 12) == 0)
-        & (get32(row, 16) == 0)
+// What an ending would give: the number of findings, or the refusal.
+pub enum Ending {
+    Finds(usize),
+    Refused(u32),
 }
 
 fn row_fault(day: Day, row: &[u8]) -> u32
@@ -62,11 +54,11 @@ fn row_fault(day: Day, row: &[u8]) -> u32
     0
 }
 
-// What the call is handed: the record, the buffers, the tables, the book.
-fn handed_fault(day: Day, log: &[u8], row: &[u8], book: &[u8], room: usize) -> u32
-    ensures { λ r. ⌜ r ≡ lentFault day (now (log .entry)) (now (row .entry)) (now (book .entry)) room ⌝ }
+// What the call is handed: the record, the counts, the tables, the book.
+fn lent_fault(day: Day, log: &[u8], row: &[u8], book: &[u8], len: usize) -> u32
+    ensures { λ r. ⌜ r ≡ lentFault day (now (log .entry)) (now (row .entry)) (now (book .entry)) len ⌝ }
 {
-    let first = call_fault(day, log, row, room);
+    let first = call_fault(day, log, row, len);
     if first != 0 {
         return first;
     }
@@ -78,59 +70,65 @@ fn handed_fault(day: Day, log: &[u8], row: &[u8], book: &[u8], room: usize) -> u
     book_fault(head, book)
 }
 
-// The day's lowest places, by the contracts' families, which are written to `fams`.
-fn judge_with(rulebook: u8, contracts: &[u8], fams: &mut [u8], counts: &[u32], places: &mut [u8])
-    requires { ⌜ (length (now fams) ≡ entries (now contracts)) × (length (now contracts) ≤ 256) × (12288 ≤ length (now counts)) × (length (now places) ≡ 6144) ⌝ }
-    ensures { λ _. ⌜ now (places .exit) ≡ placesIn rulebook (familiesIn rulebook (now (contracts .entry))) (now (counts .entry)) ⌝ }
+// The day judged: each ladder's lowest place, or the refusal of a cell.
+fn judge_cells(day: Day, log: &[u8], counts: &[u32], places: &mut [u8]) -> u32
+    requires { ⌜ GoodLog (day .head) (now log) × (cells (kindsOf (day .head .rulebook)) ≤ length (now counts)) × (length (now places) ≡ ladders (kindsOf (day .head .rulebook))) ⌝ }
+    ensures { λ r. ⌜ r ≡ cellsFault (kindsOf (day .head .rulebook)) (day .taken) (now (counts .entry)) ⌝ }
+    ensures { λ r. ⌜ (r ≡ 0 → now (places .exit) ≡ dayPlaces (day .head) (now (log .entry)) (now (counts .entry))) ⌝ }
 {
-    fill_families(rulebook, contracts, fams);
-    fill_places(rulebook, fams, counts, places);
-}
-
-fn judge_day(rulebook: u8, contracts: &[u8], counts: &[u32], places: &mut [u8])
-    requires { ⌜ (length (now contracts) ≤ 256) × (12288 ≤ length (now counts)) × (length (now places) ≡ 6144) ⌝ }
-    ensures { λ _. ⌜ now (places .exit) ≡ placesIn rulebook (familiesIn rulebook (now (contracts .entry))) (now (counts .entry)) ⌝ }
-{
-    let n = contracts.len() / 8;
-    let mut fams = [0u8; 32];
-    judge_with(rulebook, contracts, &mut fams[0..n], counts, places);
-}
-
-// Every group's totals raised: each group's 96 bytes of the book are lent on.
-fn raise_all(book: &mut [u8], later: bool, places: &[u8], contracts: u8)
-    requires { ⌜ (length (now book) ≡ 12304) × (length (now places) ≡ 6144) ⌝ }
-    ensures { λ _. ⌜ now (book .exit) ≡ put (now (book .entry)) 16 (rows (totalBytes later (now (places .entry)) (now (book .entry)) contracts) 6144) ⌝ }
-{
-    for g in 0..128 {
-        let at = 16 + 96 * g;
-        let from = 48 * g;
-        raise_group(
-            &mut book[at..at + 96],
-            later,
-            &places[from..from + 48],
-            contracts,
-        );
+    let head = day.head;
+    let kinds = kinds_of(head.rulebook as u64);
+    if !cells_good(kinds, day.taken, counts) {
+        return CHANGED;
     }
+    let middle = 16 + 8 * (head.contracts as usize);
+    judge_day(text_of(head), kinds, &log[16..middle], counts, places);
+    0
 }
 
-// Writes the day: the findings, and then the book's totals and its head.
-fn write_day(h: Header, log: &[u8], places: &[u8], book: &mut [u8], findings: &mut [u8])
-    requires { ⌜ Sound h (now log) × (length (now book) ≡ 12304) × (length (now places) ≡ 6144) × (8 * hits (now places) (h .contracts) ≤ length (now findings)) ⌝ }
-    ensures { λ _. ⌜ DayWritten h (now (log .entry)) (now (places .entry)) (now (book .entry)) (now (findings .entry)) (now (book .exit)) (now (findings .exit)) ⌝ }
+// A day whose call is sound: what it would find, or the refusals of the cells and of the room.
+fn find_with(day: Day, log: &[u8], places: &mut [u8], counts: &[u32], room: usize) -> Ending
+    requires { ⌜ (day .head ≡ headerOf (now log)) × GoodLog (day .head) (now log) × (cells (kindsOf (day .head .rulebook)) ≤ length (now counts)) × (length (now places) ≡ ladders (kindsOf (day .head .rulebook))) ⌝ }
+    ensures { λ a. ⌜ a ≡ dayFound (countsFault day (tablesOf (now (log .entry))) (now (counts .entry)) room) (tablesOf (now (log .entry))) (now (counts .entry)) ⌝ }
 {
-    let middle = 16 + 8 * (h.contracts as usize);
-    let later = year_of(last_date(book)) < year_of(h.date);
-    list_all(
-        findings,
-        h.rulebook,
-        later,
-        &log[16..middle],
-        &log[middle..],
+    let fault = judge_cells(day, log, counts, places);
+    if fault != 0 {
+        return Ending::Refused(fault);
+    }
+    let head = day.head;
+    let found = count_found(
+        kinds_of(head.rulebook as u64),
         places,
-        book,
+        head.contracts as usize,
     );
-    raise_all(book, later, places, h.contracts as u8);
-    put_head(book, h.rulebook, h.date);
+    if room < 8 * found {
+        return Ending::Refused(FINDINGS_SHORT);
+    }
+    Ending::Finds(found)
+}
+
+// What ending the day would find, or the refusal: asked, and nothing written.
+pub fn would_end(
+    state: State,
+    log: &[u8],
+    row: &[u8],
+    book: &[u8],
+    counts: &[u32],
+    room: usize,
+) -> Ending
+    ensures { λ a. ⌜ a ≡ wouldEnd state (now (log .entry)) (now (row .entry)) (now (book .entry)) (now (counts .entry)) room ⌝ }
+{
+    let State::Open(day) = state else {
+        return Ending::Refused(WRONG_STATE);
+    };
+    let fault = lent_fault(day, log, row, book, counts.len());
+    if fault != 0 {
+        return Ending::Refused(fault);
+    }
+    let head = day.head;
+    let n = ladders_in(kinds_of(head.rulebook as u64));
+    let mut places = [0u8; MOST_LADDERS];
+    find_with(day, log, &mut places[0..n], counts, room)
 }
 
 // A day whose call is sound: the refusals of the cells and of the room, or the day written.
@@ -140,23 +138,20 @@ fn end_with(
     places: &mut [u8],
     book: &mut [u8],
     counts: &[u32],
-    findings: &mut [u8],
+    out: &mut [u8],
 ) -> Ended
-    requires { ⌜ (day .head ≡ headerOf (now log)) × Sound (day .head) (now log) × (length (now places) ≡ 6144) × (length (now book) ≡ 12304) × (12288 ≤ length (now counts)) ⌝ }
-    ensures { λ a. ⌜ DayEnds (countsFault day (tablesOf (now (log .entry))) (now (counts .entry)) (length (now (findings .entry)))) (day .head .date) (tablesOf (now (log .entry))) (now (book .entry)) (now (counts .entry)) (now (findings .entry)) a (now (book .exit)) (now (findings .exit)) ⌝ }
+    requires { ⌜ (day .head ≡ headerOf (now log)) × GoodLog (day .head) (now log) × (cells (kindsOf (day .head .rulebook)) ≤ length (now counts)) × (length (now places) ≡ ladders (kindsOf (day .head .rulebook))) × (length (now book) ≡ bookSize (kindsOf (day .head .rulebook))) ⌝ }
+    ensures { λ a. ⌜ DayEnds (countsFault day (tablesOf (now (log .entry))) (now (counts .entry)) (length (now (out .entry)))) (day .head .date) (tablesOf (now (log .entry))) (now (book .entry)) (now (counts .entry)) (now (out .entry)) a (now (book .exit)) (now (out .exit)) ⌝ }
 {
-    if !cells_good(day.taken, counts) {
-        return Ended::Refused(CHANGED);
+    let fault = judge_cells(day, log, counts, places);
+    if fault != 0 {
+        return Ended::Refused(fault);
     }
     let head = day.head;
-    let middle = 16 + 8 * (head.contracts as usize);
-    judge_day(head.rulebook, &log[16..middle], counts, places);
-    let found = count_hits(places, head.contracts as u8);
-    if findings.len() < 8 * found {
-        return Ended::Refused(FINDINGS_SHORT);
+    match settle_day(head, log, places, book, out) {
+        Settled::Found(found) => Ended::Done(State::Closed, found),
+        Settled::Refused(number) => Ended::Refused(number),
     }
-    write_day(head, log, places, book, findings);
-    Ended::Done(State::Closed, found)
 }
 
 // Ends the day: writes the book and the findings, and closes. A refusal leaves the state, the book and the findings.
@@ -166,17 +161,19 @@ pub fn end(
     row: &[u8],
     book: &mut [u8],
     counts: &[u32],
-    findings: &mut [u8],
+    out: &mut [u8],
 ) -> Ended
-    ensures { λ a. ⌜ EndGives state (now (log .entry)) (now (row .entry)) (now (book .entry)) (now (counts .entry)) (now (findings .entry)) a (now (book .exit)) (now (findings .exit)) ⌝ }
+    ensures { λ a. ⌜ EndGives state (now (log .entry)) (now (row .entry)) (now (book .entry)) (now (counts .entry)) (now (out .entry)) a (now (book .exit)) (now (out .exit)) ⌝ }
 {
     let State::Open(day) = state else {
         return Ended::Refused(WRONG_STATE);
     };
-    let fault = handed_fault(day, log, row, book, counts.len());
+    let fault = lent_fault(day, log, row, book, counts.len());
     if fault != 0 {
         return Ended::Refused(fault);
     }
-    let mut places = [0u8; 6144];
-    end_with(day, log, &mut places, book, counts, findings)
+    let head = day.head;
+    let n = ladders_in(kinds_of(head.rulebook as u64));
+    let mut places = [0u8; MOST_LADDERS];
+    end_with(day, log, &mut places[0..n], book, counts, out)
 }

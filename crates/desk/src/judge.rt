@@ -7,6 +7,7 @@ use daylog::record::Record;
 use daylog::record::record_good;
 use rules::exemption::is_exempt;
 use rules::measure::is_large;
+use rules::text::Text;
 use wire::read::get8;
 use wire::refusal::FIELDS;
 use wire::refusal::NO_ACCOUNT;
@@ -17,8 +18,7 @@ ghost use Prim.Native.Nat.{_≤_};
 ghost use lib.ListN.{length};
 ghost use Rattle.daylog.specs.Accounts.{accountsGood};
 ghost use Rattle.daylog.specs.Tables.{tablesIn};
-ghost use Rattle.desk.specs.Counting.{planFor};
-ghost use Rattle.desk.specs.Judging.{judged};
+ghost use Rattle.desk.specs.Counting.{planFor, weighed};
 
 // The group and the contract's place for which a record counts, and as which kinds.
 pub struct Plan {
@@ -29,17 +29,18 @@ pub struct Plan {
     pub over: bool,
 }
 
-pub enum Judged {
+// What a record counts for, or the refusal.
+pub enum Weighed {
     Counts(Plan),
     Refused(u32),
 }
 
-fn plan_for(rulebook: u8, e: Contract, r: Record, place: u16, group: u8, group2: u8) -> Plan
-    ensures { λ a. ⌜ a ≡ planFor rulebook e r place group group2 ⌝ }
+fn plan_for(text: Text, e: Contract, r: Record, place: u16, group: u8, group2: u8) -> Plan
+    ensures { λ a. ⌜ a ≡ planFor text e r place group group2 ⌝ }
 {
     if r.sort == 1 {
-        let buys = is_exempt(rulebook, e.sort, 1, r.instruction, r.purpose);
-        let sells = is_exempt(rulebook, e.sort, 1, r.instruction2, r.purpose2);
+        let buys = is_exempt(text, e.sort, 1, r.instruction, r.purpose);
+        let sells = is_exempt(text, e.sort, 1, r.instruction2, r.purpose2);
         return Plan {
             group,
             place,
@@ -54,36 +55,36 @@ fn plan_for(rulebook: u8, e: Contract, r: Record, place: u16, group: u8, group2:
         group,
         place,
         own: false,
-        frequent: (r.sort == 2) & !is_exempt(rulebook, e.sort, 2, r.instruction, r.purpose),
+        frequent: (r.sort == 2) & !is_exempt(text, e.sort, 2, r.instruction, r.purpose),
         over: (r.sort == 2)
-            & is_large(rulebook, lots, largest)
-            & !is_exempt(rulebook, e.sort, 3, r.instruction, r.purpose),
+            & is_large(text, lots, largest)
+            & !is_exempt(text, e.sort, 3, r.instruction, r.purpose),
     }
 }
 
 // Each number is searched for once. The tables are sound: 32 contracts at the most, and accounts that rise.
-pub(crate) fn judge(rulebook: u8, contracts: &[u8], accounts: &[u8], r: Record) -> Judged
+pub(crate) fn weigh(text: Text, contracts: &[u8], accounts: &[u8], r: Record) -> Weighed
     requires { ⌜ (length (now contracts) ≤ 256) × (accountsGood (now accounts) ≡ true) ⌝ }
-    ensures { λ a. ⌜ a ≡ judged (tablesIn rulebook (now (contracts .entry)) (now (accounts .entry))) r ⌝ }
+    ensures { λ a. ⌜ a ≡ weighed (tablesIn text (now (contracts .entry)) (now (accounts .entry))) r ⌝ }
 {
-    if !record_good(rulebook, r) {
-        return Judged::Refused(FIELDS);
+    if !record_good(text, r) {
+        return Weighed::Refused(FIELDS);
     }
     let found = find_contract(contracts, r.contract);
     let Found::At(at, e) = found else {
-        return Judged::Refused(NO_CONTRACT);
+        return Weighed::Refused(NO_CONTRACT);
     };
     let place = at as u16;
     let first = find_account(accounts, r.first);
     if first.len() == 0 {
-        return Judged::Refused(NO_ACCOUNT);
+        return Weighed::Refused(NO_ACCOUNT);
     }
     if r.sort != 1 {
-        return Judged::Counts(plan_for(rulebook, e, r, place, get8(first, 4), 0));
+        return Weighed::Counts(plan_for(text, e, r, place, get8(first, 4), 0));
     }
     let second = find_account(accounts, r.second);
     if second.len() == 0 {
-        return Judged::Refused(NO_ACCOUNT);
+        return Weighed::Refused(NO_ACCOUNT);
     }
-    Judged::Counts(plan_for(rulebook, e, r, place, get8(first, 4), get8(second, 4)))
+    Weighed::Counts(plan_for(text, e, r, place, get8(first, 4), get8(second, 4)))
 }

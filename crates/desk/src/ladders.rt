@@ -1,43 +1,40 @@
 // Which contract, if any, reaches each ladder's number.
+use book::places::cells_in;
+use book::places::kind_at;
+use book::places::ladders_in;
 use daylog::contracts::contract_at;
+use rules::kinds::Kinds;
 use rules::ladder::family_of;
 use rules::measure::Times;
 use rules::measure::enough_of;
 use rules::measure::is_reached;
+use rules::text::Text;
+use wire::write::put8;
 ghost use mathlib.Core.Path.{_≡_};
-ghost use mathlib.Core.List.{[], _∷_};
 ghost use Prim.Native.Nat.{_≤_, _<_};
 ghost use lib.ListN.{length};
-ghost use Rattle.wire.specs.Choice.{pick};
-ghost use Rattle.wire.specs.Buffers.{put};
 ghost use Rattle.daylog.specs.Entries.{entries};
+ghost use Rattle.book.specs.Places.{ladders, cells};
 ghost use Rattle.desk.specs.End.{cellsGood};
-ghost use Rattle.desk.specs.Listing.{familiesIn, placeAt, placesIn, hits};
-
-fn put_byte(s: &mut [u8], at: usize, x: u8)
-    requires { ⌜ at < length (now s) ⌝ }
-    ensures { λ _. ⌜ now (s .exit) ≡ put (now (s .entry)) at (x ∷ []) ⌝ }
-{
-    s[at] = x;
-}
+ghost use Rattle.desk.specs.Way.{familiesIn, placeAt, placesIn};
 
 // The family of each contract, at its place.
-pub(crate) fn fill_families(rulebook: u8, contracts: &[u8], fams: &mut [u8])
+pub(crate) fn fill_families(text: Text, contracts: &[u8], fams: &mut [u8])
     requires { ⌜ length (now fams) ≡ entries (now contracts) ⌝ }
-    ensures { λ _. ⌜ now (fams .exit) ≡ familiesIn rulebook (now (contracts .entry)) ⌝ }
+    ensures { λ _. ⌜ now (fams .exit) ≡ familiesIn text (now (contracts .entry)) ⌝ }
 {
     for k in 0..contracts.len() / 8 {
         let e = contract_at(contracts, k);
-        put_byte(fams, k, family_of(rulebook, e.sort, e.product));
+        put8(fams, k, family_of(text, e.sort, e.product));
     }
 }
 
 // Goes up the contracts of the ladder's family, and stops at the first that reaches the number.
-fn place_at(rulebook: u8, fams: &[u8], counts: &[u32], ladder: usize) -> usize
-    requires { ⌜ (length (now fams) ≤ 32) × (12288 ≤ length (now counts)) × (ladder < 6144) ⌝ }
-    ensures { λ r. ⌜ (r ≡ placeAt rulebook (now (fams .entry)) (now (counts .entry)) ladder) × (r ≤ length (now (fams .entry))) ⌝ }
+fn place_at(text: Text, kinds: Kinds, fams: &[u8], counts: &[u32], ladder: usize) -> usize
+    requires { ⌜ (length (now fams) ≤ 32) × (cells kinds ≤ length (now counts)) × (ladder < ladders kinds) ⌝ }
+    ensures { λ r. ⌜ (r ≡ placeAt text kinds (now (fams .entry)) (now (counts .entry)) ladder) × (r ≤ length (now (fams .entry))) ⌝ }
 {
-    let number = enough_of(rulebook, (ladder / 16 % 3 + 1) as u8);
+    let number = enough_of(text, kind_at(kinds, ladder));
     let family = (ladder % 16) as u8;
     let from = ladder / 16 * 32;
     for c in 0..fams.len() {
@@ -49,41 +46,23 @@ fn place_at(rulebook: u8, fams: &[u8], counts: &[u32], ladder: usize) -> usize
 }
 
 // Each ladder's lowest place: every ladder is judged once.
-pub(crate) fn fill_places(rulebook: u8, fams: &[u8], counts: &[u32], places: &mut [u8])
-    requires { ⌜ (length (now fams) ≤ 32) × (12288 ≤ length (now counts)) × (length (now places) ≡ 6144) ⌝ }
-    ensures { λ _. ⌜ now (places .exit) ≡ placesIn rulebook (now (fams .entry)) (now (counts .entry)) ⌝ }
+pub(crate) fn fill_places(text: Text, kinds: Kinds, fams: &[u8], counts: &[u32], places: &mut [u8])
+    requires { ⌜ (length (now fams) ≤ 32) × (cells kinds ≤ length (now counts)) × (length (now places) ≡ ladders kinds) ⌝ }
+    ensures { λ _. ⌜ now (places .exit) ≡ placesIn text kinds (now (fams .entry)) (now (counts .entry)) ⌝ }
 {
-    for l in 0..6144 {
-        let place = place_at(rulebook, fams, counts, l);
-        put_byte(places, l, place as u8);
+    for l in 0..ladders_in(kinds) {
+        let place = place_at(text, kinds, fams, counts, l);
+        put8(places, l, place as u8);
     }
-}
-
-fn one_if(test: bool) -> usize
-    ensures { λ r. ⌜ (r ≡ pick test 1 0) × (r ≤ 1) ⌝ }
-{
-    if test { 1 } else { 0 }
-}
-
-// How many ladders have an offence.
-pub(crate) fn count_hits(places: &[u8], contracts: u8) -> usize
-    requires { ⌜ length (now places) ≡ 6144 ⌝ }
-    ensures { λ r. ⌜ (r ≡ hits (now (places .entry)) contracts) × (r ≤ 6144) ⌝ }
-{
-    let mut n = 0;
-    for l in 0..6144 {
-        n += one_if(places[l] < contracts);
-    }
-    n
 }
 
 // No cell stands above the number of records taken.
-pub(crate) fn cells_good(taken: u32, counts: &[u32]) -> bool
-    requires { ⌜ 12288 ≤ length (now counts) ⌝ }
-    ensures { λ r. ⌜ r ≡ cellsGood taken (now (counts .entry)) ⌝ }
+pub(crate) fn cells_good(kinds: Kinds, taken: u32, counts: &[u32]) -> bool
+    requires { ⌜ cells kinds ≤ length (now counts) ⌝ }
+    ensures { λ r. ⌜ r ≡ cellsGood kinds taken (now (counts .entry)) ⌝ }
 {
     let mut good = true;
-    for i in 0..12288 {
+    for i in 0..cells_in(kinds) {
         good = good & (counts[i] <= taken);
     }
     good

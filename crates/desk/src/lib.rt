@@ -1,11 +1,12 @@
-// The desk's calls. The caller keeps the state, and lends the tables, the book, the counts and the findings.
+// The desk's calls, and the same questions asked without writing. The caller keeps the state, and lends the tables, the
+// book, the counts and the findings.
 pub mod abandon;
+pub mod books;
 mod cells;
 pub mod end;
-mod findings;
 mod judge;
 mod ladders;
 pub mod open;
 pub mod state;
-mod tables;
 pub mod take;
+mod verdicts;

@@ -173,10 +173,10 @@ fn main() {
     accounts(&mut t);
     let mut b = [0u8; 12304];
     let mut c = [0u32; 12288];
-    book::fresh::fresh(&mut b, 1);
+    desk::books::fresh(&mut b, 1);
     take_all(&t, &b, &mut c);
     head(&mut t, 2);
-    book::fresh::fresh(&mut b, 2);
+    desk::books::fresh(&mut b, 2);
     fill_cells(&mut c);
     let mut out = [0u8; 49152];
     end_full(&t, &mut b, &c, &mut out);

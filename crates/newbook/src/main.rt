@@ -1,8 +1,11 @@
 // Makes a fresh `book.axb` in the working folder, for the rulebook that its argument names. It never touches one that is
 // there.
 use book::fresh::NewBook;
+use book::places::MOST_BOOK;
+use book::places::book_size;
 use libc::STDERR_FILENO;
 use libc::STDOUT_FILENO;
+use rules::kinds::kinds_of;
 
 // The rulebook that the only argument names: one digit and no more. Anything else is 0, which no rulebook has.
 fn rulebook_asked() -> u64 {
@@ -63,11 +66,11 @@ fn tell_made() {
     }
 }
 
-fn main() {
-    let mut book = [0u8; 12304];
-    match book::fresh::fresh(&mut book, rulebook_asked()) {
+// Fills the buffer with a fresh book and makes the file, or says how to ask.
+fn run(rulebook: u64, book: &mut [u8]) {
+    match desk::books::fresh(book, rulebook) {
         NewBook::Made => {
-            if make(&book) {
+            if make(book) {
                 tell_made();
             }
         }
@@ -78,4 +81,11 @@ fn main() {
             );
         }
     }
+}
+
+fn main() {
+    let rulebook = rulebook_asked();
+    let size = book_size(kinds_of(rulebook));
+    let mut book = [0u8; MOST_BOOK];
+    run(rulebook, &mut book[0..size]);
 }

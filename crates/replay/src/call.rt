@@ -53,7 +53,7 @@ fn came_to(old: State, answer: Answer) -> Made {
 }
 
 fn fresh(one: &[u8], state: State, book: &mut [u8]) -> Made {
-    match book::fresh::fresh(book, get64(one, 1)) {
+    match desk::books::fresh(book, get64(one, 1)) {
         NewBook::Made => came_to(state, Answer::Done(state)),
         NewBook::Refused(fault) => came_to(state, Answer::Refused(fault)),
     }
@@ -94,7 +94,7 @@ fn end(
 }
 
 fn ask(one: &[u8], state: State, book: &[u8]) -> Made {
-    match book::ask::ask(book, get64(one, 1), get64(one, 9), get64(one, 17)) {
+    match desk::books::ask(book, get64(one, 1), get64(one, 9), get64(one, 17)) {
         Asked::Total(total, rung) => Made {
             fault: 0,
             state,

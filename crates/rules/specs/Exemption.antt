@@ -3,6 +3,7 @@ use Prim.Native.Nat.{ℕ}
 use mathlib.Core.Bool.{Bool, _&&_, _||_, not}
 use lib.Dec.{eqb}
 use Rattle.wire.specs.Choice.{within}
+use Rattle.rules.specs.declared.text.Text.{Text}
 use Rattle.rules.specs.Codes.{hasType, hasInstruction, hasPurpose, isKind}
 
 -- rulebook 1 (003, one (1) 4): "instructions 2 to 6 for all kinds; purposes 2 and 3 for all kinds; purpose 4 for kind 2"
@@ -17,12 +18,13 @@ spared2 kind instruction purpose =
     || eqb purpose 2 || (eqb purpose 3 && (eqb kind 2 || eqb kind 3)) || (eqb purpose 4 && eqb kind 2)
 
 -- all codes of an order are codes of the rulebook
-unfoldable pub known : (rulebook type′ kind instruction purpose : ℕ) → Bool
-known rulebook type′ kind instruction purpose =
-    hasType rulebook type′ && isKind kind && hasInstruction rulebook instruction && hasPurpose rulebook purpose
+unfoldable pub known : Text → (type′ kind instruction purpose : ℕ) → Bool
+known text type′ kind instruction purpose =
+    hasType text type′ && isKind kind && hasInstruction text instruction && hasPurpose text purpose
 
 -- an order on a contract of a type is exempt for a kind
-unfoldable pub exempt : (rulebook type′ kind instruction purpose : ℕ) → Bool
-exempt rulebook type′ kind instruction purpose =
-    not (known rulebook type′ kind instruction purpose)
-    || (eqb rulebook 1 && spared1 kind instruction purpose) || (eqb rulebook 2 && spared2 kind instruction purpose)
+unfoldable pub exempt : Text → (type′ kind instruction purpose : ℕ) → Bool
+exempt text type′ kind instruction purpose =
+    not (known text type′ kind instruction purpose)
+    || (eqb (text .rulebook) 1 && spared1 kind instruction purpose)
+    || (eqb (text .rulebook) 2 && spared2 kind instruction purpose)

@@ -1,8 +1,10 @@
 -- 01, "Ladders": families, rungs and sanctions.
 use Prim.Native.Nat.{ℕ, _+_, _-_, _%_}
-use mathlib.Core.Bool.{Bool, _&&_, _||_}
+use mathlib.Core.Bool.{Bool, _&&_, not}
 use lib.Dec.{leb, eqb}
 use Rattle.wire.specs.Choice.{pick}
+use Rattle.rules.specs.declared.text.Text.{Text}
+use Rattle.rules.specs.Codes.{isRulebook, isKind}
 use Rattle.rules.specs.Choices.{byThree}
 
 -- families are 0 to 15; a contract that no rulebook has is in none
@@ -10,10 +12,10 @@ abbrev pub noFamily : ℕ
 noFamily = 16
 
 -- "in rulebook 1, 0 for futures and 1 for options ..; in rulebook 2, the product"
-unfoldable pub family : (rulebook type′ product : ℕ) → ℕ
-family rulebook type′ product =
-    pick (eqb rulebook 1) (byThree type′ 0 1 noFamily noFamily)
-    (pick (eqb rulebook 2 && eqb type′ 1 && leb product 15) product noFamily)
+unfoldable pub family : Text → (type′ product : ℕ) → ℕ
+family text type′ product =
+    pick (eqb (text .rulebook) 1) (byThree type′ 0 1 noFamily noFamily)
+    (pick (eqb (text .rulebook) 2 && eqb type′ 1 && leb product 15) product noFamily)
 
 -- "The rung of total n is ((n-1) mod 3) + 1"; "The calls": "rung 0 for total 0"
 unfoldable pub rung : ℕ → ℕ
@@ -21,7 +23,8 @@ rung total = pick (eqb total 0) 0 ((total - 1) % 3 + 1)
 
 -- "rung 1 is 1 (call), rung 2 is 2 (watch list), rung 3 is 3 (no opening, at least one month). In rulebook 1, a group with
 -- a member among that day's accounts has 1, 4 (talk with managers), 5 (no opening, at least three months)"; 0 is no sanction
-unfoldable pub sanction : (rulebook rung′ : ℕ) → (member : Bool) → ℕ
-sanction rulebook rung′ member =
-    pick (eqb rulebook 1 && member) (byThree rung′ 1 4 5 0)
-    (pick (eqb rulebook 1 || eqb rulebook 2) (byThree rung′ 1 2 3 0) 0)
+unfoldable pub sanction : (rulebook kind rung′ : ℕ) → (member : Bool) → ℕ
+sanction rulebook kind rung′ member =
+    pick (not (isKind kind && isRulebook rulebook)) 0
+    (pick (eqb rulebook 1 && member) (byThree rung′ 1 4 5 0)
+    (byThree rung′ 1 2 3 0))

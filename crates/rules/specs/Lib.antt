@@ -1,4 +1,5 @@
 pub mod Choices
+pub mod Kinds
 pub mod Codes
 pub mod Exemption
 pub mod Measure

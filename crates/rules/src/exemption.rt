@@ -2,6 +2,7 @@
 use crate::codes::has_instruction;
 use crate::codes::has_purpose;
 use crate::codes::has_type;
+use crate::text::Text;
 ghost use mathlib.Core.Path.{_≡_};
 ghost use Rattle.rules.specs.Exemption.{exempt, spared1, spared2};
 
@@ -25,14 +26,14 @@ fn is_spared2(kind: u8, instruction: u8, purpose: u8) -> bool
 }
 
 // Whether an order on a contract of a type is exempt for a kind of offence.
-pub fn is_exempt(rulebook: u8, contract_type: u8, kind: u8, instruction: u8, purpose: u8) -> bool
-    ensures { λ r. ⌜ r ≡ exempt rulebook «contract_type» kind instruction purpose ⌝ }
+pub fn is_exempt(text: Text, contract_type: u8, kind: u8, instruction: u8, purpose: u8) -> bool
+    ensures { λ r. ⌜ r ≡ exempt text «contract_type» kind instruction purpose ⌝ }
 {
-    let has = has_type(rulebook, contract_type)
+    let has = has_type(text, contract_type)
         & ((1 <= kind) & (kind <= 3))
-        & has_instruction(rulebook, instruction)
-        & has_purpose(rulebook, purpose);
+        & has_instruction(text, instruction)
+        & has_purpose(text, purpose);
     !has
-        | ((rulebook == 1) & is_spared1(kind, instruction, purpose))
-        | ((rulebook == 2) & is_spared2(kind, instruction, purpose))
+        | ((text.rulebook == 1) & is_spared1(kind, instruction, purpose))
+        | ((text.rulebook == 2) & is_spared2(kind, instruction, purpose))
 }

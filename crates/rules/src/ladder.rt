@@ -1,16 +1,18 @@
 // Families, rungs and sanctions.
+use crate::text::Text;
+use crate::text::is_rulebook;
 ghost use mathlib.Core.Path.{_≡_};
 ghost use Rattle.rules.specs.Choices.{byThree};
 ghost use Rattle.rules.specs.Ladders.{family, rung, sanction};
 
 // The family of a contract, 0 to 15; 16 where a rulebook has no such contract.
-pub fn family_of(rulebook: u8, contract_type: u8, product: u8) -> u8
-    ensures { λ r. ⌜ r ≡ family rulebook «contract_type» product ⌝ }
+pub fn family_of(text: Text, contract_type: u8, product: u8) -> u8
+    ensures { λ r. ⌜ r ≡ family text «contract_type» product ⌝ }
 {
-    if rulebook == 1 {
+    if text.rulebook == 1 {
         return by_three(contract_type, 0, 1, 16, 16);
     }
-    if (rulebook == 2) & (contract_type == 1) & (product <= 15) {
+    if (text.rulebook == 2) & (contract_type == 1) & (product <= 15) {
         return product;
     }
     16
@@ -41,15 +43,15 @@ fn by_three(x: u8, first: u8, second: u8, third: u8, other: u8) -> u8
     other
 }
 
-// The sanction on a rung, for a group with or without a member among the day's accounts; 0 for no sanction.
-pub fn sanction_of(rulebook: u8, rung: u8, member: bool) -> u8
-    ensures { λ r. ⌜ r ≡ sanction rulebook rung member ⌝ }
+// The sanction for an offence of a kind on a rung, for a group with or without a member among the day's accounts; 0 for no sanction.
+pub fn sanction_of(rulebook: u8, kind: u8, rung: u8, member: bool) -> u8
+    ensures { λ r. ⌜ r ≡ sanction rulebook kind rung member ⌝ }
 {
+    if !(((1 <= kind) & (kind <= 3)) & is_rulebook(rulebook as u64)) {
+        return 0;
+    }
     if (rulebook == 1) & member {
         return by_three(rung, 1, 4, 5, 0);
     }
-    if (rulebook == 1) | (rulebook == 2) {
-        return by_three(rung, 1, 2, 3, 0);
-    }
-    0
+    by_three(rung, 1, 2, 3, 0)
 }

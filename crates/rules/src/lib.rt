@@ -2,5 +2,7 @@
 // A code that the rulebook does not have never counts: it is exempt, not large, never enough, on no ladder, without sanction.
 pub mod codes;
 pub mod exemption;
+pub mod kinds;
 pub mod ladder;
 pub mod measure;
+pub mod text;

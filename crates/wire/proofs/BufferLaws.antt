@@ -39,9 +39,12 @@ put-four s at a b c d h =
 pub fitting : (n : ℕ) (s r : List ℕ) (at v : ℕ) → at + n ≤ length s → r ≡ put s at (bytes n v) → r ≡ putIn s at (bytes n v)
 fitting n s r at v h e = e ∙ sym (put-in s at (bytes n v) (rw bytes-length h))
 
-pub too-long : (n : ℕ) (s : List ℕ) (at v : ℕ) → length s < at + n → s ≡ putIn s at (bytes n v)
+pub past-end : (s : List ℕ) (at : ℕ) (p : List ℕ) → length s < at + length p → s ≡ putIn s at p
 unfolding putIn
-too-long n s at v h = pick-no _ s _ _ (lt-leb (at + length (bytes n v)) (length s) (rw bytes-length h)) refl
+past-end s at p h = pick-no _ s _ _ (lt-leb (at + length p) (length s) h) refl
+
+pub too-long : (n : ℕ) (s : List ℕ) (at v : ℕ) → length s < at + n → s ≡ putIn s at (bytes n v)
+too-long n s at v h = past-end s at (bytes n v) (rw bytes-length h)
 
 pub put-none : (s : List ℕ) (at : ℕ) → put s at [] ≡ s
 unfolding put

@@ -1,7 +1,9 @@
 pub mod ChoiceLaws
+pub mod AnswerLaws
 pub mod PlaceLaws
 pub mod ByteLaws
 pub mod BufferLaws
+pub mod TurnLaws
 pub mod KeptLaws
 pub mod PartLaws
 pub mod Unique

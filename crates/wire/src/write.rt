@@ -1,9 +1,19 @@
 // Numbers written to bytes. Where a number does not fit, nothing is written.
 ghost use mathlib.Core.Path.{_≡_};
+ghost use mathlib.Core.List.{[], _∷_};
 ghost use Prim.Native.Nat.{_+_, _≤_};
 ghost use lib.ListN.{length};
 ghost use Rattle.wire.specs.Bytes.{bytes};
 ghost use Rattle.wire.specs.Buffers.{put, putIn};
+
+// One byte at a place.
+pub fn put8(s: &mut [u8], at: usize, v: u8)
+    ensures { λ _. ⌜ now (s .exit) ≡ putIn (now (s .entry)) at (v ∷ []) ⌝ }
+{
+    if at < s.len() {
+        s[at] = v;
+    }
+}
 
 fn store16(s: &mut [u8], at: usize, v: u16)
     requires { ⌜ at + 2 ≤ length (now s) ⌝ }

@@ -6,18 +6,23 @@ use lib.ListN.{length}
 use Rattle.wire.specs.Bytes.{bytes}
 use Rattle.wire.specs.Buffers.{put, rows}
 use Rattle.wire.proofs.BufferLaws.{no-rows}
-use Rattle.book.proofs.WriteLaws.{total-turn}
+use Rattle.wire.proofs.TurnLaws.{pair-turn}
+use Rattle.book.specs.Places.{ladders}
 use Rattle.book.proofs.fresh.zero_totals.Statement.{statement}
 use Rattle.book.proofs.fresh.zero_totals.Tie as tie
 
 abbrev Inv-loop : tie.InvT-loop
-Inv-loop b₀ l₀ b l = (l ≤ 6144) × (length b ≡ 12304) × (b ≡ put b₀ 16 (rows (λ _. bytes 2 0) l))
+Inv-loop b₀ l₀ l-end b l =
+    (l ≤ l-end) × (length b ≡ length b₀) × (b ≡ put b₀ 16 (rows (λ _. bytes 2 0) l))
 
 abbrev μ-loop : tie.MeasureT-loop
-μ-loop b₀ l₀ b l = 6144 - l
+μ-loop b₀ l₀ l-end b l = l-end - l
+
+ladders-in-requires : tie.Need-ladders-in-requires Inv-loop μ-loop
+ladders-in-requires c κs = search needs
 
 loop-holds : tie.Need-loop-holds Inv-loop μ-loop
-loop-holds c = (search needs, c .before .pre, no-rows _ _ _)
+loop-holds c = (search needs, search needs, no-rows _ _ _)
 
 mul-put16 : tie.Need-mul-put16 Inv-loop μ-loop
 mul-put16 c = search needs
@@ -37,14 +42,18 @@ loop-less c = search needs
 loop-again : tie.Need-loop-again Inv-loop μ-loop
 loop-again c =
     let l = c .before .before .before .before .before .loop in
-    let start = c .before .before .before .before .before .before .before in
-    (search needs, search needs, total-turn (λ _. 0) (start .args .b .now) (l .b) _ 16 _ (l .l) (l .inv .2) refl (c .before .before .put16 .ensures) (omega arith))
+    let a = c .before .before .before .before .before .before .before .before .args in (
+      search needs,
+      search needs,
+      pair-turn (λ _. 0) (a .b .now) (l .b) _ 16 _ (l .l) (l .inv .2) refl (c .before .before .put16 .ensures)
+          (omega arith),
+    )
 
 same-length : tie.Need-same-length Inv-loop μ-loop
 same-length c = search needs
 
 returns : tie.Need-returns Inv-loop μ-loop
-returns c = let e : c .before .loop .l ≡ 6144 = omega arith in cc
+returns c = let e : c .before .loop .l ≡ ladders (c .before .before .before .before .args .kinds) = omega arith in cc
 
 pub zero-totals-spec : {M : Type 1} → statement M
 zero-totals-spec =
@@ -52,6 +61,7 @@ zero-totals-spec =
     (tie.spec
     Inv-loop
     μ-loop
+    ladders-in-requires
     loop-holds
     mul-put16
     add-put16

@@ -17,9 +17,6 @@ array-read-b-2 c = search needs
 slice-write-b-2 : tie.Need-slice-write-b-2
 slice-write-b-2 c = simp length-set (omega arith)
 
-array-read-b-3 : tie.Need-array-read-b-3
-array-read-b-3 c = search needs
-
 slice-write-b-3 : tie.Need-slice-write-b-3
 slice-write-b-3 c = simp length-set (omega arith)
 
@@ -39,14 +36,21 @@ put32-requires-2 : tie.Need-put32-requires-2
 put32-requires-2 c κs = search needs
 
 same-length : tie.Need-same-length
-same-length c = let first = simp length-set at (c .before .before .before .before .before .before .before .before .before .before .before .before .before .before .put16 .kept .0) in search needs
+same-length c =
+    let third = c .before .before .before .before .before .before in
+    let second = third .before .before .before .before in
+    let same = simp length-set at (second .before .before .before .before .put16 .kept .0) in
+    search needs
 
 returns : tie.Need-returns
 returns c =
-    let at-put16 = c .before .before .before .before .before .before .before .before .before .before .before .before .before .before in
-    let a = at-put16 .before .before .before .args in
-    head-written (a .b .now) _ _ _ _ (a .rulebook) (a .date) (at-put16 .before .before .before .pre) (at-put16 .put16 .ensures)
-    (c .before .before .before .before .before .before .before .before .before .before .put32 .ensures) (c .before .before .before .before .before .before .put162 .ensures) (c .before .before .put322 .ensures)
+    let third = c .before .before .before .before .before .before in
+    let second = third .before .before .before .before in
+    let first = second .before .before .before .before in
+    let start = first .before .before .before in
+    let a = start .args in
+    head-written (a .b .now) (a .letter) (a .rulebook) (a .date) _ _ _ _ (start .pre) (first .put16 .ensures)
+    (second .put32 .ensures) (third .put162 .ensures) (c .before .before .put322 .ensures)
 
 pub store-head-spec : {M : Type 1} → statement M
 store-head-spec =
@@ -56,7 +60,6 @@ store-head-spec =
     slice-write-b
     array-read-b-2
     slice-write-b-2
-    array-read-b-3
     slice-write-b-3
     slice-write-b-4
     put16-requires

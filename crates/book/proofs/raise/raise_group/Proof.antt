@@ -12,16 +12,21 @@ use Rattle.book.proofs.raise.raise_group.Statement.{statement}
 use Rattle.book.proofs.raise.raise_group.Tie as tie
 
 abbrev Inv-loop : tie.InvT-loop
-Inv-loop part₀ later places contracts j₀ j-end part j = (j ≤ length part₀ / 2) × (length part ≡ length part₀) × (part ≡ put part₀ 0 (rows (λ k. bytes 2 (totalAfter part₀ later places contracts k)) j))
+Inv-loop part₀ later places from contracts j₀ j-end part j =
+    (j ≤ length part₀ / 2) × (length part ≡ length part₀)
+    × (part ≡ put part₀ 0 (rows (λ k. bytes 2 (totalAfter part₀ later places from contracts k)) j))
 
 abbrev μ-loop : tie.MeasureT-loop
-μ-loop part₀ later places contracts j₀ j-end part j = length part₀ / 2 - j
+μ-loop part₀ later places from contracts j₀ j-end part j = length part₀ / 2 - j
 
 loop-holds : tie.Need-loop-holds Inv-loop μ-loop
 loop-holds c = (search needs, search needs, no-rows _ _ _)
 
-get8-requires : tie.Need-get8-requires Inv-loop μ-loop
-get8-requires c κs = search needs
+add-place-in : tie.Need-add-place-in Inv-loop μ-loop
+add-place-in c = search needs
+
+place-in-requires : tie.Need-place-in-requires Inv-loop μ-loop
+place-in-requires c κs = search needs
 
 mul-get16 : tie.Need-mul-get16 Inv-loop μ-loop
 mul-get16 c = search needs
@@ -32,8 +37,8 @@ get16-requires c κs = search needs
 mul-put16 : tie.Need-mul-put16 Inv-loop μ-loop
 mul-put16 c = search needs
 
-raise-total-requires : tie.Need-raise-total-requires Inv-loop μ-loop
-raise-total-requires c κs = search needs
+next-total-requires : tie.Need-next-total-requires Inv-loop μ-loop
+next-total-requires c κs = search needs
 
 put16-requires : tie.Need-put16-requires Inv-loop μ-loop
 put16-requires c κs = search needs
@@ -46,12 +51,15 @@ loop-less c = search needs
 
 loop-again : tie.Need-loop-again Inv-loop μ-loop
 loop-again c =
-    let l = c .before .before .before .before .before .before .before .before .before .loop in
-    let a = c .before .before .before .before .before .before .before .before .before .before .before .before .args in (
+    let read = c .before .before .before .before .before in
+    let placed = read .before .before in
+    let l = placed .before .before .loop in
+    let a = placed .before .before .before .before .before .args in (
       search needs,
       search needs,
-      raise-turn (a .part .now) (a .later) (a .places .now) (a .contracts) (l .part) _ (l .j) _ _ _ (l .inv .2)
-          (c .before .before .before .before .before .before .before .get8 .ensures) (c .before .before .before .before .before .get16 .ensures) (c .before .before .before .raise-total .ensures) (c .before .before .put16 .ensures) (omega arith),
+      raise-turn (a .part .now) (a .later) (a .places .now) (a .from) (a .contracts) (l .part) _ (l .j) _ _ _
+          (l .inv .2) (placed .place-in .ensures) (read .get16 .ensures)
+          (c .before .before .before .next-total .ensures) (c .before .before .put16 .ensures) (omega arith),
     )
 
 same-length : tie.Need-same-length Inv-loop μ-loop
@@ -70,11 +78,12 @@ raise-group-spec =
     Inv-loop
     μ-loop
     loop-holds
-    get8-requires
+    add-place-in
+    place-in-requires
     mul-get16
     get16-requires
     mul-put16
-    raise-total-requires
+    next-total-requires
     put16-requires
     add-j
     loop-less

@@ -3,14 +3,20 @@ use borrow.Author.Needs.{needs}
 use Rattle.book.proofs.sound.head_good.Statement.{statement}
 use Rattle.book.proofs.sound.head_good.Tie as tie
 
-get8-requires : tie.Need-get8-requires
-get8-requires c κs = search needs
-
 get32-requires : tie.Need-get32-requires
 get32-requires c κs = search needs
 
 mark-good-requires : tie.Need-mark-good-requires
 mark-good-requires c κs = search needs
+
+get8-requires : tie.Need-get8-requires
+get8-requires c κs = search needs
+
+cast-is-rulebook : tie.Need-cast-is-rulebook
+cast-is-rulebook c = search needs
+
+is-rulebook-requires : tie.Need-is-rulebook-requires
+is-rulebook-requires c κs = search needs
 
 get16-requires : tie.Need-get16-requires
 get16-requires c κs = search needs
@@ -32,9 +38,11 @@ pub head-good-spec : {M : Type 1} → statement M
 head-good-spec =
     tie.close
     (tie.spec
-    get8-requires
     get32-requires
     mark-good-requires
+    get8-requires
+    cast-is-rulebook
+    is-rulebook-requires
     get16-requires
     get16-requires-2
     get32-requires-2

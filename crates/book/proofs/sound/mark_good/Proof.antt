@@ -17,9 +17,6 @@ array-read-result-2 c = search needs
 get8-requires-3 : tie.Need-get8-requires-3
 get8-requires-3 c κs = search needs
 
-array-read-result-3 : tie.Need-array-read-result-3
-array-read-result-3 c = search needs
-
 returns : tie.Need-returns
 returns c = cc
 
@@ -32,5 +29,4 @@ mark-good-spec =
     get8-requires-2
     array-read-result-2
     get8-requires-3
-    array-read-result-3
     returns)

@@ -1,4 +1,4 @@
-use mathlib.Core.Path.{_≡_, sym, _∙_, ap₂}
+use mathlib.Core.Path.{_≡_, sym, ap₂, _∙_}
 use mathlib.Core.Bool.{_&&_}
 use Prim.Native.Nat.{_-_, _≤_}
 use native.Mathlib.Omega.{arith}
@@ -6,25 +6,31 @@ use borrow.Author.Needs.{needs}
 use lib.Dec.{leb}
 use Rattle.wire.specs.Places.{every}
 use Rattle.wire.proofs.PlaceLaws.{every-none, every-next}
+use Rattle.rules.proofs.KindLaws.{few}
+use Rattle.book.specs.Places.{ladders}
 use Rattle.book.specs.Layout.{totalAt}
 use Rattle.book.specs.Sound.{mostOf, totalsGood}
 use Rattle.book.proofs.sound.totals_good.Statement.{statement}
 use Rattle.book.proofs.sound.totals_good.Tie as tie
 
 abbrev Inv-loop : tie.InvT-loop
-Inv-loop b rulebook day good₀ l₀ good l = (l ≤ 6144) × (good ≡ every (λ k. leb (totalAt b k) (mostOf rulebook day k)) l)
+Inv-loop b rulebook day good₀ l₀ l-end good l =
+    (l ≤ l-end) × (good ≡ every (λ k. leb (totalAt b k) (mostOf rulebook day k)) l)
 
 abbrev μ-loop : tie.MeasureT-loop
-μ-loop b rulebook day good₀ l₀ good l = 6144 - l
+μ-loop b rulebook day good₀ l₀ l-end good l = l-end - l
+
+ladders-in-requires : tie.Need-ladders-in-requires Inv-loop μ-loop
+ladders-in-requires c κs = search needs
 
 loop-holds : tie.Need-loop-holds Inv-loop μ-loop
 loop-holds c = (search needs, sym (every-none _))
 
 mul-get16 : tie.Need-mul-get16 Inv-loop μ-loop
-mul-get16 c = search needs
+mul-get16 c = omega (arith, few (c .before .before .before .before .args .kinds) .1)
 
 add-get16 : tie.Need-add-get16 Inv-loop μ-loop
-add-get16 c = search needs
+add-get16 c = omega (arith, few (c .before .before .before .before .args .kinds) .1)
 
 get16-requires : tie.Need-get16-requires Inv-loop μ-loop
 get16-requires c κs = search needs
@@ -43,7 +49,7 @@ loop-less c = search needs
 
 loop-again : tie.Need-loop-again Inv-loop μ-loop
 loop-again c =
-    let a = c .before .before .before .before .before .args in
+    let a = c .before .before .before .before .before .before .args in
     let l = c .before .before .before .loop in (
       search needs,
       ap₂ (λ x y. x && y) (l .inv .1) (ap₂ leb (c .before .get16 .ensures) (c .most-of .ensures))
@@ -52,7 +58,7 @@ loop-again c =
 
 returns : tie.Need-returns Inv-loop μ-loop
 unfolding totalsGood
-returns c = let e : c .before .loop .l ≡ 6144 = omega arith in cc
+returns c = let e : c .before .loop .l ≡ ladders (c .before .before .before .before .args .kinds) = omega arith in cc
 
 pub totals-good-spec : {M : Type 1} → statement M
 totals-good-spec =
@@ -60,6 +66,7 @@ totals-good-spec =
     (tie.spec
     Inv-loop
     μ-loop
+    ladders-in-requires
     loop-holds
     mul-get16
     add-get16

@@ -2,7 +2,7 @@ use mathlib.Core.Path.{_∙_, ap₂}
 use Prim.Native.Nat.{ℕ, _<_}
 use native.Mathlib.Omega.{arith}
 use lib.ListN.{getD}
-use Rattle.daylog.specs.Accounts.{accountFrom}
+use Rattle.daylog.specs.Way.{accountFrom}
 use Rattle.daylog.proofs.EntryLaws.{account-words}
 use borrow.Author.Needs.{needs}
 use Rattle.daylog.proofs.accounts.account_at.Statement.{statement}

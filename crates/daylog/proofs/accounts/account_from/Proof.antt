@@ -1,5 +1,5 @@
 use mathlib.Core.Path.{refl}
-use Rattle.daylog.specs.Accounts.{accountFrom}
+use Rattle.daylog.specs.Way.{accountFrom}
 use borrow.Author.Needs.{needs}
 use Rattle.daylog.proofs.accounts.account_from.Statement.{statement}
 use Rattle.daylog.proofs.accounts.account_from.Tie as tie

@@ -2,7 +2,7 @@ use mathlib.Core.Path.{sym, _∙_}
 use native.Mathlib.Nat.{add-sub-cancel-left}
 use native.Mathlib.Omega.{arith}
 use Rattle.daylog.specs.Accounts.{accountAt}
-use Rattle.daylog.proofs.Search.{halved-fits, found-here, found-not}
+use Rattle.daylog.proofs.Search.{halved-fits, found-here, found-not, found-both}
 use borrow.Author.Needs.{needs}
 use Rattle.daylog.proofs.accounts.find_account.Statement.{statement}
 use Rattle.daylog.proofs.accounts.find_account.Tie as tie
@@ -17,7 +17,7 @@ part-result-end : tie.Need-part-result-end
 part-result-end c = search needs
 
 returns : tie.Need-returns
-returns c = found-not _ _ (λ l e. omega arith)
+returns c = found-both _ _ _ (found-not _ _ (λ l e. omega arith))
 
 halving-requires : tie.Need-halving-requires
 halving-requires c κs = search needs
@@ -59,13 +59,16 @@ unfolding accountAt
 returns-2 c =
     let b = c .before .before .before in
     rw add-sub-cancel-left
-    (found-here _ _ _ (b .halving .ensures) (b .before .if1 .left) (sym (c .before .before .word .ensures) ∙ c .before .if2 .taken))
+    (found-both _ _ _
+    (found-here _ _ _ (b .halving .ensures) (b .before .if1 .left)
+    (sym (c .before .before .word .ensures) ∙ c .before .if2 .taken)))
 
 returns-3 : tie.Need-returns-3
 unfolding accountAt
 returns-3 c =
     let b = c .before .before .before in
-    found-not _ _ (λ l e. c .before .if2 .left (c .before .before .word .ensures ∙ rw (b .halving .ensures) e))
+    found-both _ _ _
+    (found-not _ _ (λ l e. c .before .if2 .left (c .before .before .word .ensures ∙ rw (b .halving .ensures) e)))
 
 pub find-account-spec : {M : Type 1} → statement M
 find-account-spec =

@@ -3,7 +3,8 @@ use mathlib.Core.Logic.{⊎-elim}
 use Prim.Native.Nat.{_+_, _≤_, _<_}
 use native.Mathlib.Omega.{arith}
 use Rattle.daylog.specs.Entries.{entries}
-use Rattle.daylog.specs.Accounts.{accountAt, halve, halved}
+use Rattle.daylog.specs.Accounts.{accountAt}
+use Rattle.daylog.specs.Way.{halve, halved}
 use Rattle.daylog.proofs.Search.{next, next-up, next-stay, next-le, halve-end, halve-turn}
 use Rattle.daylog.proofs.accounts.halving.Statement.{statement}
 use Rattle.daylog.proofs.accounts.halving.Tie as tie

@@ -1,15 +1,20 @@
 use mathlib.Core.Path.{_≡_, _∙_, ap, ap₂}
-use mathlib.Core.Bool.{_&&_, not}
-use Prim.Native.Nat.{_-_, _≤_}
+use mathlib.Core.Bool.{Bool, _&&_, not}
+use mathlib.Core.List.{List}
+use Prim.Native.Nat.{ℕ, _-_, _≤_}
 use native.Mathlib.Omega.{arith}
 use borrow.Author.Needs.{needs}
 use lib.Dec.{eqb}
 use Rattle.wire.specs.Places.{every, some}
 use Rattle.wire.proofs.PlaceLaws.{every-next}
 use Rattle.daylog.specs.Entries.{entries}
-use Rattle.daylog.specs.Accounts.{memberAt, hasMember}
+use Rattle.daylog.specs.Accounts.{accountAt, hasMember}
 use Rattle.daylog.proofs.accounts.has_member.Statement.{statement}
 use Rattle.daylog.proofs.accounts.has_member.Tie as tie
+
+-- the account at a place is a member of the group
+abbrev memberAt : List ℕ → ℕ → ℕ → Bool
+memberAt s group k = eqb (accountAt s k .group) group && eqb (accountAt s k .kind) 2
 
 abbrev Inv-loop : tie.InvT-loop
 Inv-loop part group none₀ k₀ k-end none k = (k ≤ entries part) × (none ≡ every (λ j. not (memberAt part group j)) k)
@@ -36,8 +41,8 @@ loop-again c =
     let s = a .part .now in
     let l = c .before .before .before .before .loop in (
       omega arith,
-      ap₂ (λ x e. x && not (eqb (e .group) (a .group) && eqb (e .kind) 2)) (l .inv .1) (c .before .before .account-at .ensures)
-          ∙ every-next (λ j. not (memberAt s (a .group) j)) (l .k),
+      ap₂ (λ x e. x && not (eqb (e .group) (a .group) && eqb (e .kind) 2)) (l .inv .1)
+          (c .before .before .account-at .ensures) ∙ every-next (λ j. not (memberAt s (a .group) j)) (l .k),
     )
 
 returns : tie.Need-returns Inv-loop μ-loop

@@ -1,5 +1,5 @@
 use mathlib.Core.Path.{refl}
-use Rattle.daylog.specs.Contracts.{contractFrom}
+use Rattle.daylog.specs.Way.{contractFrom}
 use borrow.Author.Needs.{needs}
 use Rattle.daylog.proofs.contracts.contract_from.Statement.{statement}
 use Rattle.daylog.proofs.contracts.contract_from.Tie as tie

@@ -2,7 +2,7 @@ use mathlib.Core.Path.{_∙_, ap₂}
 use Prim.Native.Nat.{ℕ, _<_}
 use native.Mathlib.Omega.{arith}
 use lib.ListN.{getD}
-use Rattle.daylog.specs.Contracts.{contractFrom}
+use Rattle.daylog.specs.Way.{contractFrom}
 use Rattle.daylog.proofs.EntryLaws.{contract-words}
 use borrow.Author.Needs.{needs}
 use Rattle.daylog.proofs.contracts.contract_here.Statement.{statement}

@@ -12,10 +12,11 @@ use Rattle.daylog.proofs.contracts.contracts_good.Statement.{statement}
 use Rattle.daylog.proofs.contracts.contracts_good.Tie as tie
 
 abbrev Inv-loop : tie.InvT-loop
-Inv-loop rulebook part good₀ before₀ k₀ k-end good before k = (k ≤ entries part) × (before ≡ idBefore part k) × (good ≡ every (contractGoodAt rulebook part) k)
+Inv-loop text part good₀ before₀ k₀ k-end good before k =
+    (k ≤ entries part) × (before ≡ idBefore part k) × (good ≡ every (contractGoodAt text part) k)
 
 abbrev μ-loop : tie.MeasureT-loop
-μ-loop rulebook part good₀ before₀ k₀ k-end good before k = entries part - k
+μ-loop text part good₀ before₀ k₀ k-end good before k = entries part - k
 
 loop-holds : tie.Need-loop-holds Inv-loop μ-loop
 unfolding every idBefore
@@ -40,7 +41,9 @@ loop-again c =
     let l = c .before .before .before .loop in (
       omega arith,
       ap (λ e. e .id) (c .before .contract-here .ensures) ∙ id-before s (l .k),
-      ap₂ (λ x y. x && y) (l .inv .2) (c .contract-good .ensures ∙ ap₂ (contractGood (a .rulebook)) (l .inv .1) (c .before .contract-here .ensures)) ∙ every-next (contractGoodAt (a .rulebook) s) (l .k),
+      ap₂ (λ x y. x && y) (l .inv .2)
+          (c .contract-good .ensures ∙ ap₂ (contractGood (a .text)) (l .inv .1) (c .before .contract-here .ensures))
+          ∙ every-next (contractGoodAt (a .text) s) (l .k),
     )
 
 returns : tie.Need-returns Inv-loop μ-loop
@@ -49,7 +52,7 @@ returns c =
     let s = c .before .before .before .args .part .now in
     let l = c .before .loop in
     let e : l .k ≡ entries s = omega arith in
-    l .inv .2 ∙ ap (every (contractGoodAt (c .before .before .before .args .rulebook) s)) e
+    l .inv .2 ∙ ap (every (contractGoodAt (c .before .before .before .args .text) s)) e
 
 pub contracts-good-spec : {M : Type 1} → statement M
 contracts-good-spec =

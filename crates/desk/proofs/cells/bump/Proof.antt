@@ -31,7 +31,8 @@ returns c = pick-yes _ _ _ _ (c .before .before .if1 .taken) refl
 
 returns-2 : tie.Need-returns-2
 unfolding bumped
-returns-2 c = pick-yes _ _ _ _ (c .before .if1 .taken) (sym (set-out (c .before .before .args .c .now) _ _ (c .if2 .left)))
+returns-2 c =
+    pick-yes _ _ _ _ (c .before .if1 .taken) (sym (set-out (c .before .before .args .c .now) _ _ (c .if2 .left)))
 
 returns-3 : tie.Need-returns-3
 unfolding bumped

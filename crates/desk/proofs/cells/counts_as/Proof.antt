@@ -1,10 +1,10 @@
 use mathlib.Core.Path.{refl}
-use Rattle.desk.specs.Counting.{counted}
+use Rattle.desk.specs.Counting.{countsAs}
 use Rattle.desk.proofs.cells.counts_as.Statement.{statement}
 use Rattle.desk.proofs.cells.counts_as.Tie as tie
 
 returns : tie.Need-returns
-unfolding counted
+unfolding countsAs
 returns c = refl
 
 pub counts-as-spec : {M : Type 1} → statement M

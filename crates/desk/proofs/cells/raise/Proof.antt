@@ -7,18 +7,20 @@ use Rattle.desk.proofs.cells.raise.Tie as tie
 raise-for-requires : tie.Need-raise-for-requires
 raise-for-requires c κs =
     let s = c .before .before in
-    ready-1 (s .args .taken) (s .args .p) (s .args .c .now) (s .pre .0) (s .pre .1)
+    ready-1 (s .args .kinds) (s .args .taken) (s .args .p) (s .args .c .now) (s .pre .0) (s .pre .1)
 
 raise-for-requires-2 : tie.Need-raise-for-requires-2
 raise-for-requires-2 c κs =
     let s = c .before .before .before .before .before .before in
-    rw (c .before .before .before .raise-for .ensures) (ready-2 (s .args .taken) (s .args .p) (s .args .c .now) (s .pre .0) (s .pre .1))
+    rw (c .before .before .before .raise-for .ensures)
+    (ready-2 (s .args .kinds) (s .args .taken) (s .args .p) (s .args .c .now) (s .pre .0) (s .pre .1))
 
 raise-for-requires-3 : tie.Need-raise-for-requires-3
 raise-for-requires-3 c κs =
-    let s = c .before .before .before .before .before .before .before .before .before .before in
-    rw (c .before .before .before .raise-for2 .ensures, c .before .before .before .before .before .before .before .raise-for .ensures)
-    (ready-3 (s .args .taken) (s .args .p) (s .args .c .now) (s .pre .0) (s .pre .1))
+    let b = c .before .before .before in
+    let s = b .before .before .before .before .before .before .before in
+    rw (b .raise-for2 .ensures, b .before .before .before .before .raise-for .ensures)
+    (ready-3 (s .args .kinds) (s .args .taken) (s .args .p) (s .args .c .now) (s .pre .0) (s .pre .1))
 
 same-length : tie.Need-same-length
 same-length c = search needs

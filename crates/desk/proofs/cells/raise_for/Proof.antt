@@ -17,7 +17,7 @@ bump-requires : tie.Need-bump-requires
 unfolding Small
 bump-requires c κs = λ e.
     let s = c .before .before .before .before in
-    let h : getD (s .args .c .now) (cellFor (s .args .p) (s .args .kind)) 0 ≤ 4294967294 =
+    let h : getD (s .args .c .now) (cellFor (s .args .kinds) (s .args .p) (s .args .kind)) 0 ≤ 4294967294 =
     s .pre (sym (c .before .before .counts-as .ensures) ∙ e) in
     rw (c .before .cell-for .ensures) (omega arith)
 

@@ -1,4 +1,4 @@
-use Rattle.desk.proofs.JudgeLaws.{trade-plan, cancel-plan}
+use Rattle.desk.proofs.WeighLaws.{trade-plan, cancel-plan}
 use borrow.Author.Needs.{needs}
 use Rattle.desk.proofs.judge.plan_for.Statement.{statement}
 use Rattle.desk.proofs.judge.plan_for.Tie as tie
@@ -13,7 +13,7 @@ returns : tie.Need-returns
 returns c =
     let a = c .before .before .before .before .args in
     rw (c .before .is-exempt .ensures, c .is-exempt2 .ensures)
-    (trade-plan (a .rulebook) (a .e) (a .r) (a .place) (a .group) (a .group2) (c .before .before .if1 .taken))
+    (trade-plan (a .text) (a .e) (a .r) (a .place) (a .group) (a .group2) (c .before .before .if1 .taken))
 
 is-exempt-requires-3 : tie.Need-is-exempt-requires-3
 is-exempt-requires-3 c κs = search needs
@@ -28,8 +28,9 @@ returns-2 : tie.Need-returns-2
 returns-2 c =
     let b = c .before .before .before in
     let a = b .before .before .before .before .before .before .args in
+    let other = b .before .before .before .before .if1 .left in
     rw (b .is-exempt3 .ensures, c .before .is-large .ensures, c .is-exempt4 .ensures)
-    (cancel-plan (a .rulebook) (a .e) (a .r) (a .place) (a .group) (a .group2) (b .before .before .before .before .if1 .left))
+    (cancel-plan (a .text) (a .e) (a .r) (a .place) (a .group) (a .group2) other)
 
 pub plan-for-spec : {M : Type 1} → statement M
 plan-for-spec =

@@ -1,47 +1,53 @@
-use mathlib.Core.Path.{_≡_}
+use Rattle.desk.specs.Way.{placeAt, placesIn}
+use Rattle.book.specs.Places.{ladders}
+use Rattle.rules.proofs.KindLaws.{few}
+use Rattle.wire.proofs.TurnLaws.{byte-turn, bytes-all}
+use Rattle.wire.proofs.BufferLaws.{no-rows}
+use Rattle.wire.specs.Buffers.{put, rows}
 use mathlib.Core.List.{[], _∷_}
 use Prim.Native.Nat.{_-_, _≤_}
-use native.Mathlib.Omega.{arith}
-use borrow.Author.Needs.{needs}
 use lib.ListN.{length}
-use Rattle.wire.specs.Buffers.{put, rows}
-use Rattle.wire.proofs.BufferLaws.{no-rows}
-use Rattle.desk.specs.Listing.{placeAt, placesIn}
-use Rattle.desk.proofs.LadderLaws.{byte-turn, bytes-all}
+use native.Mathlib.Omega.{arith}
+use mathlib.Core.Path.{_≡_, refl, sym, ap, ap₂, _∙_}
+use borrow.Author.Needs.{needs}
 use Rattle.desk.proofs.ladders.fill_places.Statement.{statement}
 use Rattle.desk.proofs.ladders.fill_places.Tie as tie
 
 abbrev Inv-loop : tie.InvT-loop
-Inv-loop rulebook fams counts places₀ l₀ places l = (l ≤ 6144) × (length places ≡ 6144) × (places ≡ put places₀ 0 (rows (λ j. placeAt rulebook fams counts j ∷ []) l))
+Inv-loop text kinds fams counts places₀ l₀ l-end places l = (l ≤ l-end) × (length places ≡ length places₀) × (places ≡ put places₀ 0 (rows (λ j. placeAt text kinds fams counts j ∷ []) l))
 
 abbrev μ-loop : tie.MeasureT-loop
-μ-loop rulebook fams counts places₀ l₀ places l = 6144 - l
+μ-loop text kinds fams counts places₀ l₀ l-end places l = l-end - l
+
+ladders-in-requires : tie.Need-ladders-in-requires Inv-loop μ-loop
+ladders-in-requires c κs = search needs
 
 loop-holds : tie.Need-loop-holds Inv-loop μ-loop
-loop-holds c = (search needs, search needs, no-rows _ _ _)
+loop-holds c = (search needs, refl, no-rows _ _ _)
 
 place-at-requires : tie.Need-place-at-requires Inv-loop μ-loop
-place-at-requires c κs = search needs
+place-at-requires c κs = (c .before .before .before .before .before .before .pre .0, c .before .before .before .before .before .before .pre .1, omega (arith, c .before .before .ladders-in .ensures))
 
-cast-put-byte : tie.Need-cast-put-byte Inv-loop μ-loop
-cast-put-byte c = search needs
+cast-put8 : tie.Need-cast-put8 Inv-loop μ-loop
+cast-put8 c = omega (arith, c .before .place-at .ensures .1, c .before .before .before .before .before .before .before .before .pre .0)
 
-put-byte-requires : tie.Need-put-byte-requires Inv-loop μ-loop
-put-byte-requires c κs = search needs
+put8-requires : tie.Need-put8-requires Inv-loop μ-loop
+put8-requires c κs = search needs
 
 add-l : tie.Need-add-l Inv-loop μ-loop
-add-l c = search needs
+add-l c = omega (arith, few (c .before .before .before .before .before .before .before .before .before .before .before .args .kinds), c .before .before .before .before .before .before .before .ladders-in .ensures)
 
 loop-less : tie.Need-loop-less Inv-loop μ-loop
 loop-less c = search needs
 
 loop-again : tie.Need-loop-again Inv-loop μ-loop
 loop-again c =
+    let a = c .before .before .before .before .before .before .before .before .before .before .before .args in
     let l = c .before .before .before .before .before .before .loop in (
       search needs,
-      search needs,
-      byte-turn _ _ _ _ (l .l) _ (l .inv .2)
-          (c .before .before .before .before .place-at .ensures .0) (c .before .before .put-byte .ensures),
+      c .before .before .put8 .kept .0 ∙ l .inv .1,
+      byte-turn (placeAt (a .text) (a .kinds) (a .fams .now) (a .counts .now)) (a .places .now) (l .places) _ (l .l) _ (l .inv .2)
+          (c .before .before .before .before .place-at .ensures .0) (c .before .before .put8 .ensures) (omega (arith, c .before .before .before .before .before .before .before .before .before .before .before .pre .2, c .before .before .before .before .before .before .before .ladders-in .ensures)),
     )
 
 same-length : tie.Need-same-length Inv-loop μ-loop
@@ -50,8 +56,10 @@ same-length c = search needs
 returns : tie.Need-returns Inv-loop μ-loop
 unfolding placesIn
 returns c =
+    let a = c .before .before .before .before .before .before .args in
     let l = c .before .loop in
-    bytes-all _ _ _ (l .l) 6144 (l .inv .2) (omega arith) (c .before .before .before .before .before .pre .2)
+    bytes-all (placeAt (a .text) (a .kinds) (a .fams .now) (a .counts .now)) (a .places .now) (l .places) (l .l) (ladders (a .kinds)) (l .inv .2)
+    (omega (arith, c .before .before .ladders-in .ensures)) (c .before .before .before .before .before .before .pre .2)
 
 pub fill-places-spec : {M : Type 1} → statement M
 fill-places-spec =
@@ -59,10 +67,11 @@ fill-places-spec =
     (tie.spec
     Inv-loop
     μ-loop
+    ladders-in-requires
     loop-holds
     place-at-requires
-    cast-put-byte
-    put-byte-requires
+    cast-put8
+    put8-requires
     add-l
     loop-less
     loop-again

@@ -1,55 +1,75 @@
-use mathlib.Core.Path.{refl, sym, _∙_}
-use native.Mathlib.Omega.{arith}
-use Rattle.desk.specs.Open.{openFault, zeroed}
-use Rattle.desk.proofs.MoveLaws.{refused, done}
-use Rattle.desk.proofs.OpenLaws.{room-there}
+use mathlib.Core.Path.{_≡_, refl, sym, _∙_, ap}
+use mathlib.Core.List.{_++_}
+use Prim.Native.Nat.{ℕ}
+use lib.ListN.{length, drop, replicate}
+use Rattle.wire.proofs.AnswerLaws.{refused, done}
+use Rattle.daylog.specs.Header.{headerOf}
+use Rattle.book.specs.Places.{cells}
+use Rattle.desk.specs.Open.{kindsFor, openFault, zeroed}
+use Rattle.desk.proofs.CallLaws.{room-opened}
 use borrow.Author.Needs.{needs}
 use Rattle.desk.proofs.open.open.Statement.{statement}
 use Rattle.desk.proofs.open.open.Tie as tie
 
-enum-told : tie.Need-enum-told
-enum-told c = search needs
-
-enum-told-2 : tie.Need-enum-told-2
-enum-told-2 c = search needs
+would-open-requires : tie.Need-would-open-requires
+would-open-requires c κs = search needs
 
 returns : tie.Need-returns
-unfolding openFault
-returns c = rw (c .enum-told2 .given .1) (refused _ 10 refl (λ z. omega arith))
-
-handed-fault-requires : tie.Need-handed-fault-requires
-handed-fault-requires c κs = search needs
-
-returns-2 : tie.Need-returns-2
-unfolding openFault
-returns-2 c = rw (c .before .before .enum-told .given .1) (refused _ _ (c .before .handed-fault .ensures) (c .if1 .taken))
-
-zero-first-requires : tie.Need-zero-first-requires
-zero-first-requires c κs =
-    let a = c .before .before .before .before .before .before .before .before .args in
-    room-there (a .log .now) (a .book .now) _ (sym (c .before .before .handed-fault .ensures) ∙ c .before .if1 .left)
+returns c = refused _ _ (c .before .would-open .ensures) (c .if1 .taken)
 
 header-of-requires : tie.Need-header-of-requires
 header-of-requires c κs = search needs
 
+cast-kinds-of : tie.Need-cast-kinds-of
+cast-kinds-of c = search needs
+
+kinds-of-requires : tie.Need-kinds-of-requires
+kinds-of-requires c κs = search needs
+
+cells-in-requires : tie.Need-cells-in-requires
+cells-in-requires c κs = search needs
+
+-- what the call is handed
+abbrev args : tie.After-cells-in → tie.Start
+args c = c .before .before .before .before .before .before .before .before .before .before
+
+-- no refusal
+opens : (c : tie.After-cells-in) → let a = args c .args in
+    openFault (a .state) (a .log .now) (a .book .now) (length (a .counts .now)) ≡ 0
+opens c = let b = c .before .before .before .before .before in sym (b .before .would-open .ensures) ∙ b .if1 .left
+
+-- the cells, by the log's header
+cells-is : (c : tie.After-cells-in) → c .cells-in .result ≡ cells (kindsFor (headerOf (args c .args .log .now)))
+cells-is c =
+    c .cells-in .ensures ∙ ap (λ k. cells k) (c .before .kinds-of .ensures)
+    ∙ ap (λ h. cells (kindsFor h)) (c .before .before .before .before .header-of .ensures)
+
+zero-first-requires : tie.Need-zero-first-requires
+zero-first-requires c κs =
+    let a = args c .args in
+    rw (cells-is c) (room-opened (a .state) (a .log .now) (a .book .now) _ (opens c))
+
 same-length : tie.Need-same-length
 same-length c = search needs
 
-returns-3 : tie.Need-returns-3
-unfolding openFault zeroed
-returns-3 c =
-    rw (c .before .before .before .before .before .before .before .enum-told .given .1, ← c .header-of .ensures) (done _ (sym (c .before .before .before .before .before .before .handed-fault .ensures) ∙ c .before .before .before .before .before .if1 .left) (c .before .before .before .zero-first .ensures))
+returns-2 : tie.Need-returns-2
+unfolding zeroed
+returns-2 c =
+    let b = c .before .before .before in
+    let zeroes = ap (λ (n : ℕ). replicate n 0 ++ drop n (args b .args .counts .now)) (cells-is b) in
+    rw (b .before .before .before .before .header-of .ensures)
+    (done _ (opens b) refl (c .before .before .zero-first .ensures ∙ zeroes))
 
 pub open-spec : {M : Type 1} → statement M
 open-spec =
     tie.close
     (tie.spec
-    enum-told
-    enum-told-2
+    would-open-requires
     returns
-    handed-fault-requires
-    returns-2
-    zero-first-requires
     header-of-requires
+    cast-kinds-of
+    kinds-of-requires
+    cells-in-requires
+    zero-first-requires
     same-length
-    returns-3)
+    returns-2)

@@ -18,11 +18,16 @@ by-kind-requires-2 c κs = search needs
 
 returns-2 : tie.Need-returns-2
 unfolding enough
-returns-2 c = ap times (pick-no _ _ _ _ (ne-eqb _ _ (c .before .before .if1 .left)) (pick-yes _ _ _ _ (eq-eqb _ _ (c .before .if2 .taken)) (c .by-kind2 .ensures)))
+returns-2 c =
+    ap times
+    (pick-no _ _ _ _ (ne-eqb _ _ (c .before .before .before .if1 .left))
+    (pick-yes _ _ _ _ (eq-eqb _ _ (c .before .if2 .taken)) (c .by-kind2 .ensures)))
 
 returns-3 : tie.Need-returns-3
 unfolding enough
-returns-3 c = ap times (pick-no _ _ _ _ (ne-eqb _ _ (c .before .if1 .left)) (pick-no _ _ _ _ (ne-eqb _ _ (c .if2 .left)) refl))
+returns-3 c =
+    ap times
+    (pick-no _ _ _ _ (ne-eqb _ _ (c .before .before .if1 .left)) (pick-no _ _ _ _ (ne-eqb _ _ (c .if2 .left)) refl))
 
 pub enough-of-spec : {M : Type 1} → statement M
 enough-of-spec =

@@ -1,0 +1,3 @@
+pub mod Verdict
+pub mod Settle
+pub mod Way

@@ -10,23 +10,25 @@ mod times;
 mod year;
 mod zero;
 
+use rules::text::Text;
+
 fn leaves() {
     dates::tested();
     say::truth(
         b"rulebook 2, plain limit, ordinary is exempt for kind 2",
-        rules::exemption::is_exempt(2, 1, 2, 1, 1),
+        rules::exemption::is_exempt(Text { rulebook: 2 }, 1, 2, 1, 1),
     );
     say::truth(
         b"rulebook 2, plain limit, ordinary is exempt for kind 3",
-        rules::exemption::is_exempt(2, 1, 3, 1, 1),
+        rules::exemption::is_exempt(Text { rulebook: 2 }, 1, 3, 1, 1),
     );
     say::number(
         b"family of DCE futures",
-        rules::ladder::family_of(1, 1, 0) as u64,
+        rules::ladder::family_of(Text { rulebook: 1 }, 1, 0) as u64,
     );
     say::number(
         b"family of DCE options",
-        rules::ladder::family_of(1, 2, 0) as u64,
+        rules::ladder::family_of(Text { rulebook: 1 }, 2, 0) as u64,
     );
 }
 

@@ -8,6 +8,7 @@ use crate::day::taken;
 use crate::say;
 use rules::measure::Lots;
 use rules::measure::is_large;
+use rules::text::Text;
 
 // So many ordinary cancels of one size on contract 101: how many findings.
 fn cancels(
@@ -94,7 +95,7 @@ pub(crate) fn large_bonds(
 ) {
     say::truth(
         b"rulebook 2, 7 lots of 9 is large",
-        is_large(2, Lots(7), Lots(9)),
+        is_large(Text { rulebook: 2 }, Lots(7), Lots(9)),
     );
     cancels(
         b"rulebook 2, 100 cancels of 7 lots of 9, findings",

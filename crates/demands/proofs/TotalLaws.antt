@@ -179,9 +179,12 @@ module _ (from : List ℕ) (days : List PastDay) (log book : List ℕ) (rs : Lis
           (omega (arith, ltb-true (year (lastDate book)) (year date) e, ap year (k .last))))
       go false e =
           let y : year (lastOn from days) ≡ year date =
-          omega
-          (arith, ltb-false (year (lastDate book)) (year date) e,
-          year-rises (lastDate book) date (omega (arith, q .later)), ap year (k .last)) in
+          omega (
+            arith,
+            ltb-false (year (lastDate book)) (year date) e,
+            year-rises (lastDate book) date (omega (arith, q .later)),
+            ap year (k .last),
+          ) in
           sym (pick-no _ _ _ _ e refl) ∙ k .total l h ∙ ap (λ (n : ℕ). totalOver from n l days) y
 
   this-year : (y : ℕ) (b : Bool) → b ≡ eqb y y && b
@@ -194,7 +197,7 @@ module _ (from : List ℕ) (days : List PastDay) (log book : List ℕ) (rs : Lis
   unfolding totalOver offenceDays howMany offenceOn
   one-more l =
       let e : _≡_ {A = ℕ} (pick (offends (dayVerdict t rs) l) 1 0)
-          (pick (eqb (year date) (year date) && offenceAt t rs l) 1 0) =
+      (pick (eqb (year date) (year date) && offenceAt t rs l) 1 0) =
       ap (λ (b : Bool). pick b 1 0) (offends-is t rs l ∙ this-year (year date) (offenceAt t rs l)) in
       omega arith
 

@@ -1,42 +1,37 @@
+use mathlib.Core.Path.{ap}
+use native.Mathlib.Omega.{arith}
+use Rattle.rules.specs.Kinds.{kindsIn, mostKinds}
+use Rattle.rules.proofs.KindLaws.{kinds-most}
 use borrow.Author.Needs.{needs}
 use Rattle.newbook.proofs.main.Statement.{statement}
 use Rattle.newbook.proofs.main.Tie as tie
-use Rattle.newbook.proofs.main.Reads as reads
-use Rattle.newbook.proofs.main.Lts as lts
-use Rattle.book.proofs.places.book_size.Reads as book-size-reads
-use Rattle.newbook.proofs.rulebook_asked.Reads as rulebook-asked-reads
-use Rattle.newbook.proofs.run.Reads as run-reads
-use Rattle.rules.proofs.kinds.kinds_of.Reads as kinds-of-reads
 
--- src/main.rt:87:9
 rulebook-asked-requires : tie.Need-rulebook-asked-requires
 rulebook-asked-requires c κs = search needs
 
--- src/main.rt:88:26
 kinds-of-requires : tie.Need-kinds-of-requires
 kinds-of-requires c κs = search needs
 
--- src/main.rt:88:9
 book-size-requires : tie.Need-book-size-requires
 book-size-requires c κs = search needs
 
--- src/main.rt:90:19
 sub-run : tie.Need-sub-run
 sub-run c = search needs
 
--- src/main.rt:90:19
 part-book-start : tie.Need-part-book-start
 part-book-start c = search needs
 
--- src/main.rt:90:19
 part-book-end : tie.Need-part-book-end
-part-book-end c = ?
+unfolding mostKinds
+part-book-end c =
+    let few = kinds-most (c .before .before .rulebook-asked .result) in
+    let same = ap kindsIn (c .before .kinds-of .ensures) in
+    let long = c .book-size .ensures in
+    omega arith
 
--- src/main.rt:90:5
 run-requires : tie.Need-run-requires
 run-requires c κs = search needs
 
--- src/main.rt:86:1
 returns : tie.Need-returns
 returns c = search needs
 

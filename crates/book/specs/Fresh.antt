@@ -5,7 +5,7 @@ use mathlib.Core.List.{List}
 use lib.Dec.{eqb}
 use lib.ListN.{length}
 use Rattle.wire.specs.Choice.{pick}
-use Rattle.wire.specs.Answers.{Outcome}
+use Rattle.wire.specs.Outcomes.{Outcome}
 use Rattle.rules.specs.Codes.{isRulebook}
 use Rattle.book.specs.declared.shape.Shape.{Shape}
 use Rattle.book.specs.declared.fresh.NewBook.{NewBook}

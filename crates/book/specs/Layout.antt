@@ -1,5 +1,5 @@
--- 01, "Layouts": "Book, 12,304 bytes: 0..2 mark 41 58 42 ("AXB"); 3 rulebook; 4..5 version, 1; 6..9 last date, 0 when none;
--- 10..15 zero; then 6,144 totals of 16 bits."
+-- 01, "Layouts": "Book, 12,304 bytes: 0..2 mark 41 58 42 ("AXB"); 3 rulebook; 4..5 version, 1; 6..9 last date, 0 when
+-- none; 10..15 zero; then 6,144 totals of 16 bits."
 use Prim.Native.Nat.{ℕ, _+_, _*_}
 use mathlib.Core.List.{List, [], _∷_, _++_}
 use Rattle.wire.specs.Bytes.{le, bytes}

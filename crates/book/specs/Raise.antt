@@ -1,4 +1,5 @@
--- 01, "Layouts": "when a day ends, the 96 bytes of one group are lent on to be written"; "Ladders": the totals after a day.
+-- 01, "Layouts": "when a day ends, the 96 bytes of one group are lent on to be written"; "Ladders": the totals after
+-- a day.
 use Prim.Native.Nat.{ℕ, _+_, _*_, _/_, _%_}
 use mathlib.Core.Bool.{Bool}
 use mathlib.Core.List.{List}

@@ -1,5 +1,5 @@
--- 01, "Layouts": "A sound book has this length, these values, a rulebook of 1 or 2, a real date or 0, no total above the day
--- number of that date in its year (all zero where it is 0), and in rulebook 1 zero in families 2 to 15."
+-- 01, "Layouts": "A sound book has this length, these values, a rulebook of 1 or 2, a real date or 0, no total above
+-- the day number of that date in its year (all zero where it is 0), and in rulebook 1 zero in families 2 to 15."
 use Prim.Native.Nat.{ℕ}
 use mathlib.Core.Bool.{Bool, _&&_, _||_}
 use mathlib.Core.List.{List}

@@ -25,7 +25,8 @@ pub(crate) enum Outcome {
     Refused(u32),
 }
 
-// Records passed: the state after them, the place of the first that was not taken, and the refusal's number, 0 for none.
+// Records passed: the state after them, the place of the first that was not taken, and the refusal's number, 0 for
+// none.
 struct Passed {
     state: State,
     at: usize,
@@ -62,8 +63,8 @@ fn take_rows(start: State, log: &[u8], rows: &[u8], counts: &mut [u32]) -> Passe
     }
 }
 
-// Whether anything follows an end record, which has `left` bytes from its own first on in its piece. A piece that is not
-// full is the last; after a read that failed nobody can tell, and the log counts as cut off.
+// Whether anything follows an end record, which has `left` bytes from its own first on in its piece. A piece that is
+// not full is the last; after a read that failed nobody can tell, and the log counts as cut off.
 fn is_followed(left: usize, piece: Got) -> bool {
     if (left != 20) | piece.failed {
         return true;

@@ -69,7 +69,8 @@ fn print_heading(log: &[u8]) -> bool {
     io::write_all(STDOUT_FILENO, &line[0..end])
 }
 
-// A finding's 8 bytes are group, kind, family, sanction, total and contract; its line names the total before the sanction.
+// A finding's 8 bytes are group, kind, family, sanction, total and contract; its line names the total before the
+// sanction.
 fn add_finding(line: &mut [u8], finding: &[u8]) -> usize
     ensures { λ r. ⌜ r ≤ length (now (line .exit)) ⌝ }
 {

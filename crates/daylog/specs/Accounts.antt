@@ -13,7 +13,12 @@ use Rattle.daylog.specs.Entries.{entries}
 
 -- the account entry at place k of a table
 unfoldable pub accountAt : List ℕ → ℕ → Account
-accountAt s k = record { number = le 4 s (8 * k); group = getD s (8 * k + 4) 0; kind = getD s (8 * k + 5) 0; spare = le 2 s (8 * k + 6) }
+accountAt s k = record {
+  number = le 4 s (8 * k);
+  group = getD s (8 * k + 4) 0;
+  kind = getD s (8 * k + 5) 0;
+  spare = le 2 s (8 * k + 6);
+}
 
 -- "not zero, strictly rising" is above the one before, with 0 before the first
 unfoldable pub numberBefore : List ℕ → ℕ → ℕ

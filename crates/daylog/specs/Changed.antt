@@ -1,5 +1,5 @@
--- 01, "The calls and their refusals": "Tables are changed when they fail opening's checks 1 to 8 or the header is not the
--- open day's".
+-- 01, "The calls and their refusals": "Tables are changed when they fail opening's checks 1 to 8 or the header is not
+-- the open day's".
 use Prim.Native.Nat.{ℕ}
 use mathlib.Core.Bool.{Bool, _&&_, _||_, not}
 use mathlib.Core.List.{List}

@@ -1,5 +1,5 @@
--- 01, "Layouts": "C contract entries of 8 bytes: 0..1 contract id, not zero, strictly rising; 2 type ..; 3 product, 0 to 15;
--- 4..7 largest order in lots, 1 to 1,000,000."
+-- 01, "Layouts": "C contract entries of 8 bytes: 0..1 contract id, not zero, strictly rising; 2 type ..; 3 product, 0
+-- to 15; 4..7 largest order in lots, 1 to 1,000,000."
 use Prim.Native.Nat.{ℕ, zero, suc, _+_, _*_}
 use mathlib.Core.Bool.{Bool, _&&_}
 use mathlib.Core.List.{List}
@@ -18,7 +18,12 @@ use Rattle.daylog.specs.Entries.{entries}
 
 -- the contract entry at place k of a table
 unfoldable pub contractAt : List ℕ → ℕ → Contract
-contractAt s k = record { id = le 2 s (8 * k); sort = getD s (8 * k + 2) 0; product = getD s (8 * k + 3) 0; largest = lots (le 4 s (8 * k + 4)) }
+contractAt s k = record {
+  id = le 2 s (8 * k);
+  sort = getD s (8 * k + 2) 0;
+  product = getD s (8 * k + 3) 0;
+  largest = lots (le 4 s (8 * k + 4));
+}
 
 -- "not zero, strictly rising" is above the one before, with 0 before the first
 unfoldable pub idBefore : List ℕ → ℕ → ℕ

@@ -1,4 +1,5 @@
--- What is known of a log, with header h, in which opening's checks 1 to 8 find no fault (proofs/FaultLaws, `log-sound`).
+-- What is known of a log, with header h, in which opening's checks 1 to 8 find no fault (proofs/FaultLaws,
+-- `log-sound`).
 use mathlib.Core.Path.{_≡_}
 use mathlib.Core.Bool.{true}
 use mathlib.Core.List.{List}

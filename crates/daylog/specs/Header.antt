@@ -17,7 +17,8 @@ use Rattle.daylog.specs.Accounts.{accountsGood}
 abbrev pub markGood : List ℕ → Bool
 markGood log = eqb (getD log 0 0) 0x41 && eqb (getD log 1 0) 0x58 && eqb (getD log 2 0) 0x44
 
--- "3 rulebook; 4..5 version, 1; 6..9 date as yyyymmdd; 10..11 number of contracts C ..; 12..13 number of accounts A ..; 14..15 zero"
+-- "3 rulebook; 4..5 version, 1; 6..9 date as yyyymmdd; 10..11 number of contracts C ..; 12..13 number of accounts A
+-- ..; 14..15 zero"
 unfoldable pub headerOf : List ℕ → Header
 headerOf log = record {
   rulebook = getD log 3 0;

@@ -15,8 +15,8 @@ use Rattle.daylog.specs.declared.record.Record.{Record}
 unfoldable pub recordLength : (version : ℕ) → ℕ
 recordLength version = 20
 
--- "0 type; 1 zero; 2..3 contract id; 4..7 first account; 8..11 second account; 12..15 lots ..; 16 instruction and 17 purpose
--- of the first order; 18 and 19 those of the second"
+-- "0 type; 1 zero; 2..3 contract id; 4..7 first account; 8..11 second account; 12..15 lots ..; 16 instruction and 17
+-- purpose of the first order; 18 and 19 those of the second"
 unfoldable pub recordOf : List ℕ → Record
 recordOf s = record {
   sort = getD s 0 0;

@@ -25,13 +25,15 @@ unfoldable pub halve : ℕ → List ℕ → ℕ → ℕ → ℕ → ℕ
 halve zero s number from size = from
 halve (suc turns) s number from size =
     pick (leb size 1) from
-    (halve turns s number (pick (leb (accountAt s (from + size / 2) .number) number) (from + size / 2) from) (size - size / 2))
+    (halve turns s number
+    (pick (leb (accountAt s (from + size / 2) .number) number) (from + size / 2) from) (size - size / 2))
 
 -- the place that halving ends at
 unfoldable pub halved : List ℕ → ℕ → ℕ
 halved s number = halve (entries s) s number 0 (entries s)
 
--- the entry there, where it is the account's. On a table that rises this is `accountEntry` (proofs/Search, `found-rising`)
+-- the entry there, where it is the account's. On a table that rises this is `accountEntry` (proofs/Search,
+-- `found-rising`)
 unfoldable pub foundAccount : List ℕ → ℕ → List ℕ
 foundAccount s number =
     pick (ltb (halved s number) (entries s) && eqb (accountAt s (halved s number) .number) number)

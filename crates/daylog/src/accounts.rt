@@ -87,8 +87,8 @@ fn halving(part: &[u8], number: u32) -> usize
     from
 }
 
-// The account's entry as a part of the table, or an empty part where there is none. In a table that is not in order, it is
-// what halving comes to.
+// The account's entry as a part of the table, or an empty part where there is none. In a table that is not in order,
+// it is what halving comes to.
 pub fn find_account(part: &[u8], number: u32) -> &[u8]
     ensures { λ r. ⌜ now r ≡ foundAccount (now (part .entry)) number ⌝ }
     ensures { λ r. ⌜ (accountsGood (now (part .entry)) ≡ true → now r ≡ accountEntry (now (part .entry)) number) ⌝ }

@@ -8,7 +8,7 @@ use borrow.Author.Tests.{eqb-true}
 use lib.Dec.{eqb, lit<}
 use lib.ListN.{length}
 use Rattle.wire.specs.Choice.{pick}
-use Rattle.wire.specs.Answers.{answered}
+use Rattle.wire.specs.Outcomes.{answered}
 use Rattle.wire.proofs.ChoiceLaws.{pick-zero, or-none}
 use Rattle.daylog.specs.declared.record.Record.{Record}
 use Rattle.daylog.specs.Header.{headerOf, logFault}
@@ -28,7 +28,7 @@ use Rattle.desk.specs.Take.{takeFault, planIn, oneMore}
 use Rattle.desk.specs.Open.{kindsFor, openFault, handedFault, dayOf, zeroed}
 use Rattle.desk.specs.Abandon.{abandonAnswer}
 use Rattle.desk.specs.End.{endFault}
-use Rattle.desk.proofs.CallLaws.{room-there}
+use Rattle.desk.proofs.HandedLaws.{room-there}
 use Rattle.demands.specs.Counts.{dayVerdict}
 use Rattle.demands.specs.Days.{blank}
 use Rattle.demands.specs.Calls.{Step, Reply, moved, ended, Desk, deskOf, Given, stateAfter, logAfter, endState, Gives, fresh-gives, open-gives, take-gives, end-gives, abandon-gives, ask-gives, lend-gives, Ran, none, next, left}

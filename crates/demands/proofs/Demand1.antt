@@ -5,16 +5,16 @@ use mathlib.Core.List.{List, [], _∷_}
 use borrow.Author.Tests.{ne-eqb}
 use lib.Dec.{eqb}
 use Rattle.wire.specs.Choice.{pick}
-use Rattle.wire.specs.Answers.{answered}
+use Rattle.wire.specs.Outcomes.{answered}
 use Rattle.wire.proofs.ChoiceLaws.{pick-no}
-use Rattle.wire.proofs.AnswerLaws.{answer-number, one-outcome}
+use Rattle.wire.proofs.AnswerLaws.{answer-done, answer-number, one-outcome}
 use Rattle.book.specs.Fresh.{freshNumber}
-use Rattle.book.specs.Ask.{askNumber}
+use Rattle.book.specs.Ask.{askNumber, askAnswerAs, askedTotal, askedRung}
 use Rattle.desk.specs.Answers.{numberOf}
 use Rattle.desk.specs.Abandon.{abandonAnswer}
-use Rattle.desk.specs.End.{endNumber}
+use Rattle.desk.specs.End.{endNumber, endFound}
 use Rattle.demands.specs.Calls.{Step, Desk, Given, Gives, fresh-gives, open-gives, take-gives, end-gives, abandon-gives, ask-gives, lend-gives, Ran, none, next}
-use Rattle.demands.specs.Demand1.{AlwaysAnswered, OneAnswer, namedNumber, NumberNamed, RefusalKeeps}
+use Rattle.demands.specs.Demand1.{AlwaysAnswered, OneAnswer, namedNumber, NumberNamed, valuesIn, namedValues, ValuesNamed, RefusalKeeps}
 use Rattle.demands.proofs.NumberLaws.{answered-number, fresh-number, ask-number}
 use Rattle.demands.proofs.Answers.{answers}
 
@@ -48,6 +48,20 @@ number-named w c g (end-gives m) = ap endNumber (m .answer) ∙ answer-number _ 
 number-named w c g (abandon-gives e) = ap numberOf e ∙ answered-number _ _
 number-named w c g (ask-gives {group} {kind} {family} e) = ap askNumber e ∙ ask-number (w .book) group kind family
 number-named w c g lend-gives = refl
+
+-- ---- and its values are those that are named
+values : {w : Desk} {c : Step} {g : Given} → Gives w c g → namedNumber w c ≡ 0 → valuesIn (g .reply) ≡ namedValues w c
+unfolding namedNumber valuesIn namedValues askAnswerAs
+values (fresh-gives m) z = refl
+values (open-gives m) z = refl
+values (take-gives m) z = refl
+values (end-gives m) z = ap (λ a. endFound a ∷ []) (m .answer ∙ sym (answer-done _ _ _ z refl))
+values (abandon-gives m) z = refl
+values (ask-gives e) z = ap (λ a. askedTotal a ∷ askedRung a ∷ []) (e ∙ sym (answer-done _ _ _ z refl))
+values lend-gives z = refl
+
+pub values-named : ValuesNamed
+values-named w c g m z = values m (sym (number-named w c g m) ∙ z)
 
 -- ---- a refusal leaves everything as it was
 -- what is chosen where the test does not hold

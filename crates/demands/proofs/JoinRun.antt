@@ -28,7 +28,7 @@ use Rattle.verdict.specs.Settle.{shortFault}
 use Rattle.desk.specs.Books.{freshFault, askFault}
 use Rattle.desk.specs.Open.{kindsFor, fewFault, handedFault}
 use Rattle.desk.specs.End.{rowFault}
-use Rattle.desk.proofs.CallLaws.{room-there}
+use Rattle.desk.proofs.HandedLaws.{room-there}
 use Rattle.demands.specs.Counts.{timesOn, dayVerdict}
 use Rattle.demands.specs.Days.{blank}
 use Rattle.demands.specs.Calls.{Step, makeBook, openDay, endDay, fullRoom}

@@ -17,7 +17,7 @@ use Rattle.book.specs.Places.{cells}
 use Rattle.desk.specs.Cells.{raised}
 use Rattle.desk.specs.Take.{takeFault, planIn}
 use Rattle.desk.specs.Open.{kindsFor, openFault, handedFault, zeroed}
-use Rattle.desk.proofs.CallLaws.{room-there}
+use Rattle.desk.proofs.HandedLaws.{room-there}
 use Rattle.demands.specs.Calls.{Step, Desk, Given, Gives, fresh-gives, open-gives, take-gives, end-gives, abandon-gives, ask-gives, lend-gives, Ran, none, next, left}
 use Rattle.demands.specs.Paper.{Course, idle, during, Paper, takeNumber, openRuled, takeRuled, rule}
 use Rattle.demands.specs.Lent.{latest, lastOpened, mostCells, CountsHold}

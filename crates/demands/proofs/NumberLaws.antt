@@ -6,7 +6,7 @@ use Prim.Native.Nat.{ℕ, _≤_, _<_}
 use native.Mathlib.Omega.{arith}
 use borrow.Author.Tests.{eq-eqb}
 use lib.ListN.{length}
-use Rattle.wire.specs.Answers.{answered}
+use Rattle.wire.specs.Outcomes.{answered}
 use Rattle.wire.proofs.ChoiceLaws.{pick-not, or-not, pick-le, pick-no, flip-no}
 use Rattle.wire.proofs.AnswerLaws.{answer-number}
 use Rattle.rules.specs.declared.kinds.Kinds.{Kinds}

@@ -8,7 +8,7 @@ use borrow.Author.Tests.{eqb-true, eq-eqb, le-ltb}
 use lib.Dec.{eqb, ltb}
 use lib.ListN.{length, replicate, length-replicate}
 use Rattle.wire.specs.Choice.{pick, orElse}
-use Rattle.wire.specs.Answers.{answered}
+use Rattle.wire.specs.Outcomes.{answered}
 use Rattle.wire.specs.Places.{every, some, count, first}
 use Rattle.wire.specs.Bytes.{le, bytes}
 use Rattle.wire.specs.Buffers.{put, rows}

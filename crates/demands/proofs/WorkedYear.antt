@@ -8,7 +8,7 @@ use native.Mathlib.Omega.{arith}
 use borrow.Author.Tests.{eq-eqb}
 use lib.ListN.{length, replicate, length-replicate}
 use Rattle.wire.specs.Choice.{pick, orElse}
-use Rattle.wire.specs.Answers.{answered}
+use Rattle.wire.specs.Outcomes.{answered}
 use Rattle.wire.specs.Places.{every, some, first}
 use Rattle.wire.specs.Bytes.{le}
 use Rattle.calendar.specs.Dates.{year, realDay, monthDays}

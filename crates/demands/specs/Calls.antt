@@ -1,6 +1,5 @@
 -- Any list of calls as customers make them: "each call is handed the state, tables, counts and book as the call before
 -- left them". What a call gives is what its contract promises, and nothing else is known of it.
-use mathlib.Core.Path.{_≡_}
 use Prim.Native.Nat.{ℕ, _*_}
 use mathlib.Core.List.{List, [], _∷_, map}
 use Rattle.book.specs.declared.fresh.NewBook.{NewBook}
@@ -14,10 +13,10 @@ use Rattle.desk.specs.declared.state.Answer.the-variants.{Done, Refused}
 use Rattle.desk.specs.declared.end.Ended.{Ended}
 use Rattle.desk.specs.declared.end.Ended.the-variants.{Done as EndDone, Refused as EndRefused}
 use Rattle.desk.specs.Answers.{numberOf}
-use Rattle.desk.specs.Books.{FreshGives, askAnswer}
+use Rattle.desk.specs.Books.{FreshGives, AskGives}
 use Rattle.desk.specs.Take.{TakeGives}
 use Rattle.desk.specs.Open.{OpenGives}
-use Rattle.desk.specs.Abandon.{abandonAnswer}
+use Rattle.desk.specs.Abandon.{AbandonGives}
 use Rattle.desk.specs.End.{endNumber, EndGives}
 
 -- ---- what a customer does
@@ -103,11 +102,11 @@ pub data Gives (w : Desk) : Step → Given → Type 0 where
       → Gives w (endDay row)
       (record { reply = ended a; after = deskOf (endState (w .state) a) (w .log) (w .counts) book out })
   abandon-gives : {a : Answer}
-      → a ≡ abandonAnswer (w .state)
+      → AbandonGives (w .state) a
       → Gives w abandonDay
       (record { reply = moved a; after = deskOf (stateAfter (w .state) a) (w .log) (w .counts) (w .book) (w .out) })
   ask-gives : {group kind family : ℕ} {a : Asked}
-      → a ≡ askAnswer (w .book) group kind family
+      → AskGives (w .book) group kind family a
       → Gives w (askBook group kind family) (record { reply = told a; after = w })
   lend-gives : {out : List ℕ}
       → Gives w (lendFindings out)

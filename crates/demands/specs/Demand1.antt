@@ -2,15 +2,20 @@
 -- in the order it names, and book, counts and findings stay exactly as they were." The statements; proofs/Demand1 has
 -- the theorems under the same names.
 use mathlib.Core.Path.{_≡_}
-use mathlib.Core.List.{List}
+use mathlib.Core.List.{List, [], _∷_}
 use Prim.Native.Nat.{ℕ}
 use lib.ListN.{length}
+use Rattle.rules.specs.Ladders.{rung}
+use Rattle.daylog.specs.Tables.{tablesOf}
+use Rattle.book.specs.Shape.{shapeOf}
+use Rattle.book.specs.Ask.{totalOf, askedTotal, askedRung}
+use Rattle.verdict.specs.Verdict.{foundCount}
 use Rattle.desk.specs.Books.{freshFault, askFault}
 use Rattle.desk.specs.Open.{openFault}
 use Rattle.desk.specs.Take.{takeFault}
-use Rattle.desk.specs.End.{endFault}
+use Rattle.desk.specs.End.{cellVerdict, endFault, endFound}
 use Rattle.desk.specs.Abandon.{abandonFault}
-use Rattle.demands.specs.Calls.{Step, makeBook, openDay, takeRecord, endDay, abandonDay, askBook, lendFindings, numberIn, Desk, Given, Gives, Ran}
+use Rattle.demands.specs.Calls.{Step, makeBook, openDay, takeRecord, endDay, abandonDay, askBook, lendFindings, Reply, made, moved, ended, told, lent, numberIn, Desk, Given, Gives, Ran}
 
 -- ---- "Each call ends with an answer whatever it is handed": for every list of steps, on every desk, there is one
 pub record Answered (w : Desk) (cs : List Step) : Type 0 where
@@ -36,6 +41,30 @@ namedNumber w (lendFindings out) = 0
 
 abbrev pub NumberNamed : Type 0
 NumberNamed = (w : Desk) (c : Step) (g : Given) → Gives w c g → numberIn (g .reply) ≡ namedNumber w c
+
+-- ---- the values that an accepted call answers with: ending tells how many findings there are, asking a total and its
+-- rung; no other call tells a value
+unfoldable pub valuesIn : Reply → List ℕ
+valuesIn (made a) = []
+valuesIn (moved a) = []
+valuesIn (ended a) = endFound a ∷ []
+valuesIn (told a) = askedTotal a ∷ askedRung a ∷ []
+valuesIn lent = []
+
+unfoldable pub namedValues : Desk → Step → List ℕ
+namedValues w (endDay row) = foundCount (cellVerdict (tablesOf (w .log)) (w .counts)) ∷ []
+namedValues w (askBook group kind family) =
+    let total = totalOf (shapeOf (w .book) .kinds) (w .book) group kind family in
+    total ∷ rung total ∷ []
+namedValues w (makeBook rulebook) = []
+namedValues w (openDay log) = []
+namedValues w (takeRecord row) = []
+namedValues w abandonDay = []
+namedValues w (lendFindings out) = []
+
+abbrev pub ValuesNamed : Type 0
+ValuesNamed = (w : Desk) (c : Step) (g : Given) → Gives w c g → numberIn (g .reply) ≡ 0
+    → valuesIn (g .reply) ≡ namedValues w c
 
 -- ---- "and book, counts and findings stay exactly as they were"; so do the state and the tables of the open day
 abbrev pub RefusalKeeps : Type 0

@@ -125,7 +125,8 @@ BookOfDays = (w : Desk) (cs : List Step) (gs : List Given) → SoundRun w cs gs
 abbrev pub TotalsCounted : Type 0
 TotalsCounted = (w : Desk) (cs : List Step) (gs : List Given) → SoundRun w cs gs → (ladder : ℕ) →
     let book = left w gs .book in
-    ladder < ladders (kindsOf (rulebookOf book)) → totalAt book ladder ≡ totalOver (since w cs .from) (year (lastDate book)) ladder (since w cs .days)
+    ladder < ladders (kindsOf (rulebookOf book))
+    → totalAt book ladder ≡ totalOver (since w cs .from) (year (lastDate book)) ladder (since w cs .days)
 
 -- a fresh book is blank, and from a blank one nothing is carried: each total is the number of the year's offence days
 abbrev pub FreshIsBlank : Type 0
@@ -133,7 +134,8 @@ FreshIsBlank = (book : List ℕ) (rulebook : ℕ) → freshFault (length book) r
     → freshBook book rulebook ≡ blank rulebook
 
 abbrev pub BlankCarriesNothing : Type 0
-BlankCarriesNothing = (rulebook y ladder : ℕ) → ladder < ladders (kindsOf rulebook) → carried (blank rulebook) y ladder ≡ 0
+BlankCarriesNothing = (rulebook y ladder : ℕ) → ladder < ladders (kindsOf rulebook)
+    → carried (blank rulebook) y ladder ≡ 0
 
 -- the sanctions in the findings are those of the totals
 abbrev pub SanctionsFound : Type 0

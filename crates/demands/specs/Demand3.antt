@@ -71,10 +71,12 @@ pub data DaysJoined (a b : ℕ) (from : List ℕ) : List PastDay → List PastDa
 
 -- ---- of the days and the books that they leave: totals at the end, and opening restrictions in each year
 -- group g had no more on a kind's ladder in a family than group b has after the join
-pub record NoFewer (kinds : Kinds) (g b : ℕ) (from book book′ : List ℕ) (days days′ : List PastDay) (kind family : ℕ) : Type 0 where
+pub record NoFewer (kinds : Kinds) (g b : ℕ) (from book book′ : List ℕ) (days days′ : List PastDay)
+    (kind family : ℕ) : Type 0 where
   pub totals : totalAt book (ladderOf kinds g kind family) ≤ totalAt book′ (ladderOf kinds b kind family)
   pub restricted : (y : ℕ)
-      → restrictions from y (ladderOf kinds g kind family) days ≤ restrictions from y (ladderOf kinds b kind family) days′
+      → restrictions from y (ladderOf kinds g kind family) days
+      ≤ restrictions from y (ladderOf kinds b kind family) days′
 
 pub record YearJoined (kinds : Kinds) (a b : ℕ) (from book book′ : List ℕ) (days days′ : List PastDay) : Type 0 where
   pub each : DaysJoined a b from days days′
@@ -160,7 +162,8 @@ pub record RunJoined (a b : ℕ) (w w′ : Desk) (cs cs′ : List Step) (gs gs�
   pub same-numbers : SameNumbers gs gs′
   pub cells-add : CellsAdded a b (lastOpened (begun w) idle cs) (left w gs .counts) (left w′ gs′ .counts)
   pub same-book : since w′ cs′ .from ≡ since w cs .from
-  pub year : YearJoined (kindsOf (rulebookOf (since w cs .from))) a b (since w cs .from) (left w gs .book) (left w′ gs′ .book)
+  pub year : YearJoined (kindsOf (rulebookOf (since w cs .from))) a b (since w cs .from)
+      (left w gs .book) (left w′ gs′ .book)
       (since w cs .days) (since w′ cs′ .days)
 
 abbrev pub NothingLost : Type 0
@@ -171,7 +174,8 @@ NothingLost = (a b rulebook : ℕ) (w w′ : Desk) (cs cs′ : List Step) (gs gs
 pub record LogsJoined (a b rulebook : ℕ) (logs : List (List ℕ)) (js js′ : List Judged) : Type 0 where
   -- each log gets the number that it had: an accepted one is accepted again
   pub same-numbers : map (λ j. j .number) js′ ≡ map (λ j. j .number) js
-  pub year : YearJoined (kindsOf rulebook) a b (blank rulebook) (lastFile (blank rulebook) js) (lastFile (blank rulebook) js′)
+  pub year : YearJoined (kindsOf rulebook) a b (blank rulebook)
+      (lastFile (blank rulebook) js) (lastFile (blank rulebook) js′)
       (logDays (blank rulebook) [] logs) (logDays (blank rulebook) [] (map (joinLog a b) logs))
 
 abbrev pub NothingLostInLogs : Type 0

@@ -43,8 +43,10 @@ findingOn t rs date book ladder =
 pub record Lists (t : Tables) (rs : List Record) (date : ℕ) (book bs : List ℕ) (n : ℕ) : Type 0 where
   pub long : length bs ≡ 8 * n
   -- a finding is listed exactly when the day was an offence of its group and kind in its family
-  pub listed : (ladder : ℕ) → ladder < ladders (kindsOn t) → offenceAt t rs ladder ≡ true → Names (kindsOn t) bs n ladder
-  pub only : (ladder : ℕ) → Names (kindsOn t) bs n ladder → (ladder < ladders (kindsOn t)) × (offenceAt t rs ladder ≡ true)
+  pub listed : (ladder : ℕ) → ladder < ladders (kindsOn t) → offenceAt t rs ladder ≡ true
+      → Names (kindsOn t) bs n ladder
+  pub only : (ladder : ℕ) → Names (kindsOn t) bs n ladder
+      → (ladder < ladders (kindsOn t)) × (offenceAt t rs ladder ≡ true)
   -- it is listed once, and in order
   pub rises : (i j : ℕ) → i < j → j < n → ladderIn (kindsOn t) bs i < ladderIn (kindsOn t) bs j
   -- its total, its sanction, and the lowest contract

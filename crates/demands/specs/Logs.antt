@@ -25,7 +25,8 @@ use Rattle.demands.specs.Paper.{dayIn, takeNumber}
 pub data Reads : Desk → List (List ℕ) → ℕ → Desk → Type 0 where
   -- "a cut-off log (1)": no end record, or a record that is cut off
   stops : {w : Desk} → Reads w [] 1 w
-  cut : {w : Desk} {row : List ℕ} {more : List (List ℕ)} → eqb (length row) (rowSize (w .log)) ≡ false → Reads w (row ∷ more) 1 w
+  cut : {w : Desk} {row : List ℕ} {more : List (List ℕ)} → eqb (length row) (rowSize (w .log)) ≡ false
+      → Reads w (row ∷ more) 1 w
   takes : {w w′ : Desk} {row : List ℕ} {more : List (List ℕ)} {g : Given} {n : ℕ}
       → eqb (length row) (rowSize (w .log)) ≡ true → isEnd row ≡ false
       → Gives w (takeRecord row) g → numberIn (g .reply) ≡ 0 → Reads (g .after) more n w′ → Reads w (row ∷ more) n w′

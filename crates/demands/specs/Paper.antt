@@ -5,7 +5,7 @@ use mathlib.Core.List.{List, [], _∷_, map}
 use lib.Dec.{leb, eqb}
 use lib.ListN.{length}
 use Rattle.wire.specs.Choice.{pick, orElse}
-use Rattle.wire.specs.Answers.{answered}
+use Rattle.wire.specs.Outcomes.{answered}
 use Rattle.book.specs.declared.fresh.NewBook.the-variants.{Made, Refused as NotMade}
 use Rattle.book.specs.Fits.{bookFault}
 use Rattle.daylog.specs.declared.record.Record.{Record}

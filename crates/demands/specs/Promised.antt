@@ -1,6 +1,6 @@
 -- Every statement of demands 1 to 3, the starred table and the examples, as one record: a function of src/lib.rt has it
 -- for its contract, so that a theorem that goes fails the gate.
-use Rattle.demands.specs.Demand1.{AlwaysAnswered, OneAnswer, NumberNamed, RefusalKeeps}
+use Rattle.demands.specs.Demand1.{AlwaysAnswered, OneAnswer, NumberNamed, ValuesNamed, RefusalKeeps}
 use Rattle.demands.specs.Demand2.{CallsRuled, CellsCounted, NeverChanged, NeverUnsound, FindingsListed, LowestId, BookOfDays, TotalsCounted, FreshIsBlank, BlankCarriesNothing, SanctionsFound, FindingsFound, LogsRuled, AlwaysRead, FileOfDays, LogsFound}
 use Rattle.demands.specs.Demand3.{NothingLost, NothingLostInLogs}
 use Rattle.demands.specs.Example.{WhyThreeOrFive}
@@ -13,6 +13,7 @@ pub record Promised : Type 0 where
   pub always-answered : AlwaysAnswered
   pub one-answer : OneAnswer
   pub number-named : NumberNamed
+  pub values-named : ValuesNamed
   pub refusal-keeps : RefusalKeeps
   -- demand 2, over lists of calls
   pub calls-ruled : CallsRuled

@@ -23,7 +23,8 @@ sanctionOn from ladder d before =
     let total = totalOver from (year (d .date)) ladder (d ∷ before) in
     let kinds = kindsOn (d .tables) in
     pick (offenceOn ladder d)
-    (sanction (d .tables .text .rulebook) (kindAt kinds ladder) (rung total) (memberOn (d .tables) (groupAt kinds ladder))) 0
+    (sanction (d .tables .text .rulebook) (kindAt kinds ladder) (rung total)
+    (memberOn (d .tables) (groupAt kinds ladder))) 0
 
 abbrev pub noOpening : ℕ → Bool
 noOpening s = eqb s 3 || eqb s 5
@@ -42,5 +43,6 @@ restrictions = sanctions noOpening
 pub data Sanctioned (from : List ℕ) : List PastDay → Type 0 where
   none : Sanctioned from []
   more : {d : PastDay} {days : List PastDay}
-      → ((l : ℕ) → l < ladders (kindsOf (rulebookOf from)) → getD (foundOn from d days l) 3 0 ≡ sanctionOn from l d days)
+      → ((l : ℕ) → l < ladders (kindsOf (rulebookOf from))
+      → getD (foundOn from d days l) 3 0 ≡ sanctionOn from l d days)
       → Sanctioned from days → Sanctioned from (d ∷ days)

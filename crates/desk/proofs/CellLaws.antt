@@ -12,7 +12,8 @@ use Rattle.wire.proofs.ChoiceLaws.{or-left, or-right}
 use Rattle.rules.specs.declared.kinds.Kinds.{Kinds}
 use Rattle.desk.specs.declared.judge.Plan.{Plan}
 use Rattle.desk.specs.Counting.{countsAs}
-use Rattle.desk.specs.Cells.{cellFor, cellChanged, cellsChanged, bumped, raisedFor, Small}
+use Rattle.desk.specs.Cells.{cellFor, cellChanged, cellsChanged, bumped, raisedFor}
+use Rattle.desk.specs.Way.{Small}
 
 -- a store of at most m leaves every cell at most m
 set-le : (c : List ℕ) (i j v m : ℕ) → v ≤ m → getD c j 0 ≤ m → getD (set c i v) j 0 ≤ m

@@ -38,7 +38,7 @@ use Rattle.desk.specs.Take.{callFault}
 use Rattle.desk.specs.Offences.{kindsOn, verdictOn}
 use Rattle.desk.specs.Way.{dayPlaces}
 use Rattle.desk.specs.End.{rowFault, lentFault, cellsFault, cellVerdict, countsFault, dayFound, DayEnds}
-use Rattle.desk.proofs.CallLaws.{sound-call, room-called}
+use Rattle.desk.proofs.HandedLaws.{sound-call, room-called}
 use Rattle.desk.proofs.VerdictLaws.{dayBytes, day-same, kinds-are, count-same}
 
 -- no more ladders have an offence than there are

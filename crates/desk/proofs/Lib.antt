@@ -1,6 +1,6 @@
 pub mod CellLaws
 pub mod WeighLaws
-pub mod CallLaws
+pub mod HandedLaws
 pub mod LowestLaws
 pub mod VerdictLaws
 pub mod EndLaws

@@ -9,7 +9,7 @@ use borrow.Author.Tests.{eq-eqb, ne-eqb, eqb-true, eqb-false, ltb-true, not-true
 use lib.Dec.{eqb, ltb}
 use lib.ListN.{length, getD}
 use Rattle.wire.specs.Choice.{pick}
-use Rattle.wire.specs.Answers.{answered}
+use Rattle.wire.specs.Outcomes.{answered}
 use Rattle.wire.proofs.ChoiceLaws.{pick-yes, pick-no, and-yes, and-no, and-no-right, flip-yes, flip-no}
 use Rattle.wire.proofs.AnswerLaws.{answer-refused, answer-done}
 use Rattle.rules.specs.declared.text.Text.{Text}

@@ -1,6 +1,8 @@
--- 01, "The calls and their refusals": "Abandoning closes the day and writes nothing; all closed states are alike." "Abandon: 10."
+-- 01, "The calls and their refusals": "Abandoning closes the day and writes nothing; all closed states are alike."
+-- "Abandon: 10."
+use mathlib.Core.Path.{_≡_}
 use Prim.Native.Nat.{ℕ}
-use Rattle.wire.specs.Answers.{answered}
+use Rattle.wire.specs.Outcomes.{answered}
 use Rattle.desk.specs.declared.state.State.{State}
 use Rattle.desk.specs.declared.state.State.the-variants.{Closed, Open}
 use Rattle.desk.specs.declared.state.Answer.{Answer}
@@ -12,3 +14,7 @@ abandonFault (Open day) = 0
 
 unfoldable pub abandonAnswer : State → Answer
 abandonAnswer state = answered (abandonFault state) (Done Closed) Refused
+
+-- what `abandon` gives
+abbrev pub AbandonGives : State → Answer → Type 0
+AbandonGives state a = a ≡ abandonAnswer state

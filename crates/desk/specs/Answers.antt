@@ -1,7 +1,7 @@
 -- 01, "The calls and their refusals": the answers that move the state. The paper's number for each, and its values.
 use Prim.Native.Nat.{ℕ}
 use mathlib.Core.List.{List}
-use Rattle.wire.specs.Answers.{Outcome}
+use Rattle.wire.specs.Outcomes.{Outcome}
 use Rattle.desk.specs.declared.state.State.{State}
 use Rattle.desk.specs.declared.state.Answer.{Answer}
 use Rattle.desk.specs.declared.state.Answer.the-variants.{Done, Refused}

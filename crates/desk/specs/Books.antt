@@ -1,4 +1,5 @@
 -- 01, "The calls and their refusals": the two calls on a book alone. "Fresh: 4, 17." "Ask: 17, 21."
+use mathlib.Core.Path.{_≡_}
 use Prim.Native.Nat.{ℕ}
 use mathlib.Core.List.{List}
 use Rattle.book.specs.declared.fresh.NewBook.{NewBook}
@@ -20,3 +21,6 @@ askFault b = askFaultAs (shapeOf b) b
 
 abbrev pub askAnswer : List ℕ → (group kind family : ℕ) → Asked
 askAnswer b = askAnswerAs (shapeOf b) b
+
+abbrev pub AskGives : List ℕ → (group kind family : ℕ) → Asked → Type 0
+AskGives b group kind family a = a ≡ askAnswer b group kind family

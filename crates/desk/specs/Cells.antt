@@ -1,7 +1,6 @@
 -- 01, "Layouts": the counts that are lent, a cell for each group, kind and contract's place (book specs/Places).
-use mathlib.Core.Path.{_≡_}
-use Prim.Native.Nat.{ℕ, _+_, _≤_}
-use mathlib.Core.Bool.{Bool, true, _&&_, _||_}
+use Prim.Native.Nat.{ℕ, _+_}
+use mathlib.Core.Bool.{Bool, _&&_, _||_}
 use mathlib.Core.List.{List}
 use lib.Dec.{ltb}
 use lib.ListN.{getD, set}
@@ -33,7 +32,3 @@ raisedFor kinds p kind c = bumped (countsAs p kind) (cellFor kinds p kind) c
 -- the counts after a record: one more for each kind as which it counts
 unfoldable pub raised : Kinds → Plan → List ℕ → List ℕ
 raised kinds p c = raisedFor kinds p 3 (raisedFor kinds p 2 (raisedFor kinds p 1 c))
-
--- the cell that would be raised for a kind stands at m at most
-unfoldable pub Small : ℕ → Kinds → Plan → List ℕ → ℕ → Type 0
-Small m kinds p c kind = countsAs p kind ≡ true → getD c (cellFor kinds p kind) 0 ≤ m

@@ -1,9 +1,10 @@
--- 01, "What counts": which record counts for which group, kind and contract. Over tables and records, with no bytes and no cells.
+-- 01, "What counts": which record counts for which group, kind and contract. Over tables and records, with no bytes
+-- and no cells.
 use Prim.Native.Nat.{ℕ}
 use mathlib.Core.Bool.{Bool, _&&_, _||_, not}
 use lib.Dec.{eqb}
 use Rattle.wire.specs.Choice.{pick}
-use Rattle.wire.specs.Answers.{answered}
+use Rattle.wire.specs.Outcomes.{answered}
 use Rattle.rules.specs.declared.text.Text.{Text}
 use Rattle.rules.specs.Exemption.{exempt}
 use Rattle.rules.specs.Measure.{large}
@@ -38,8 +39,13 @@ module _ (text : Text) (e : Contract) (r : Record) where
 
   -- the group and the contract's place for which it counts, and as which kinds
   unfoldable pub planFor : (place group group2 : ℕ) → Plan
-  planFor place group group2 =
-      record { group = group; place = place; own = selfTrade group group2; frequent = frequentCancel; over = largeCancel }
+  planFor place group group2 = record {
+    group = group;
+    place = place;
+    own = selfTrade group group2;
+    frequent = frequentCancel;
+    over = largeCancel;
+  }
 
 -- ---- a record of a day
 unfoldable pub planOf : Tables → Record → Plan

@@ -5,7 +5,7 @@ use mathlib.Core.List.{List}
 use lib.Dec.{leb, eqb}
 use lib.ListN.{length, getD}
 use Rattle.wire.specs.Choice.{pick, orElse}
-use Rattle.wire.specs.Answers.{answered, Outcome}
+use Rattle.wire.specs.Outcomes.{answered, Outcome}
 use Rattle.wire.specs.Places.{every}
 use Rattle.wire.specs.Bytes.{le}
 use Rattle.rules.specs.declared.kinds.Kinds.{Kinds}
@@ -55,7 +55,9 @@ countsFault day t c room = orElse (cellsFault (kindsOn t) (day .taken) c) (short
 -- the refusals of what the call is handed, in their order; `len` counts are lent
 unfoldable pub lentFault : Day → (log row book : List ℕ) → (len : ℕ) → ℕ
 lentFault day log row book len =
-    orElse (callFault day log row len) (orElse (rowFault day row) (bookFault (day .head .rulebook) (day .head .date) book))
+    orElse (callFault day log row len)
+    (orElse (rowFault day row)
+    (bookFault (day .head .rulebook) (day .head .date) book))
 
 unfoldable pub endFault : State → (log row book c : List ℕ) → (room : ℕ) → ℕ
 endFault Closed log row book c room = 10

@@ -1,4 +1,5 @@
--- 01, "Ladders": a day's offences, from a number of times for each contract. Over any counts: those in the cells, or the records'.
+-- 01, "Ladders": a day's offences, from a number of times for each contract. Over any counts: those in the cells, or
+-- the records'.
 use Prim.Native.Nat.{ℕ}
 use mathlib.Core.Bool.{Bool, _&&_}
 use lib.Dec.{eqb}

@@ -5,7 +5,7 @@ use mathlib.Core.List.{List}
 use lib.Dec.{leb, ltb, eqb}
 use lib.ListN.{length}
 use Rattle.wire.specs.Choice.{pick, orElse}
-use Rattle.wire.specs.Answers.{answered}
+use Rattle.wire.specs.Outcomes.{answered}
 use Rattle.daylog.specs.declared.record.Record.{Record}
 use Rattle.daylog.specs.Header.{headerOf}
 use Rattle.daylog.specs.Records.{recordLength, recordOf}

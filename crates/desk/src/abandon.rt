@@ -2,11 +2,10 @@
 use crate::state::Answer;
 use crate::state::State;
 use wire::refusal::WRONG_STATE;
-ghost use mathlib.Core.Path.{_≡_};
-ghost use Rattle.desk.specs.Abandon.{abandonAnswer};
+ghost use Rattle.desk.specs.Abandon.{AbandonGives};
 
 pub fn abandon(state: State) -> Answer
-    ensures { λ a. ⌜ a ≡ abandonAnswer state ⌝ }
+    ensures { λ a. ⌜ AbandonGives state a ⌝ }
 {
     match state {
         State::Open(_) => Answer::Done(State::Closed),

@@ -5,8 +5,7 @@ use book::fresh::NewBook;
 use book::fresh::fresh_as;
 use book::shape::day_shape;
 use book::sound::shape_of;
-ghost use mathlib.Core.Path.{_≡_};
-ghost use Rattle.desk.specs.Books.{FreshGives, askAnswer};
+ghost use Rattle.desk.specs.Books.{FreshGives, AskGives};
 
 // Writes a fresh book of a rulebook over the whole buffer, or refuses and leaves it.
 pub fn fresh(book: &mut [u8], rulebook: u64) -> NewBook
@@ -17,7 +16,7 @@ pub fn fresh(book: &mut [u8], rulebook: u64) -> NewBook
 
 // Asks a book for a total and its rung.
 pub fn ask(book: &[u8], group: u64, kind: u64, family: u64) -> Asked
-    ensures { λ a. ⌜ a ≡ askAnswer (now (book .entry)) group kind family ⌝ }
+    ensures { λ a. ⌜ AskGives (now (book .entry)) group kind family a ⌝ }
 {
     ask_as(shape_of(book), book, group, kind, family)
 }

@@ -7,7 +7,8 @@ ghost use mathlib.Core.Bool.{true, false};
 ghost use Prim.Native.Nat.{_<_};
 ghost use lib.ListN.{getD};
 ghost use Rattle.desk.specs.Counting.{countsAs};
-ghost use Rattle.desk.specs.Cells.{cellFor, cellChanged, cellsChanged, bumped, raisedFor, raised, Small};
+ghost use Rattle.desk.specs.Cells.{cellFor, cellChanged, cellsChanged, bumped, raisedFor, raised};
+ghost use Rattle.desk.specs.Way.{Small};
 
 fn counts_as(p: Plan, kind: u8) -> bool
     ensures { λ a. ⌜ a ≡ countsAs p kind ⌝ }

@@ -72,7 +72,8 @@ fn lent_fault(day: Day, log: &[u8], row: &[u8], book: &[u8], len: usize) -> u32
 
 // The day judged: each ladder's lowest place, or the refusal of a cell.
 fn judge_cells(day: Day, log: &[u8], counts: &[u32], places: &mut [u8]) -> u32
-    requires { ⌜ GoodLog (day .head) (now log) × (cells (kindsOf (day .head .rulebook)) ≤ length (now counts)) × (length (now places) ≡ ladders (kindsOf (day .head .rulebook))) ⌝ }
+    requires { ⌜ GoodLog (day .head) (now log) × (cells (kindsOf (day .head .rulebook)) ≤ length (now counts)) ×
+        (length (now places) ≡ ladders (kindsOf (day .head .rulebook))) ⌝ }
     ensures { λ r. ⌜ r ≡ cellsFault (kindsOf (day .head .rulebook)) (day .taken) (now (counts .entry)) ⌝ }
     ensures { λ r. ⌜ (r ≡ 0 → now (places .exit) ≡ dayPlaces (day .head) (now (log .entry)) (now (counts .entry))) ⌝ }
 {
@@ -88,8 +89,11 @@ fn judge_cells(day: Day, log: &[u8], counts: &[u32], places: &mut [u8]) -> u32
 
 // A day whose call is sound: what it would find, or the refusals of the cells and of the room.
 fn find_with(day: Day, log: &[u8], places: &mut [u8], counts: &[u32], room: usize) -> Ending
-    requires { ⌜ (day .head ≡ headerOf (now log)) × GoodLog (day .head) (now log) × (cells (kindsOf (day .head .rulebook)) ≤ length (now counts)) × (length (now places) ≡ ladders (kindsOf (day .head .rulebook))) ⌝ }
-    ensures { λ a. ⌜ a ≡ dayFound (countsFault day (tablesOf (now (log .entry))) (now (counts .entry)) room) (tablesOf (now (log .entry))) (now (counts .entry)) ⌝ }
+    requires { ⌜ (day .head ≡ headerOf (now log)) × GoodLog (day .head) (now log) × (cells (kindsOf
+        (day .head .rulebook)) ≤ length (now counts)) × (length (now places) ≡ ladders (kindsOf
+        (day .head .rulebook))) ⌝ }
+    ensures { λ a. ⌜ a ≡ dayFound (countsFault day (tablesOf (now (log .entry))) (now (counts .entry)) room) (tablesOf
+        (now (log .entry))) (now (counts .entry)) ⌝ }
 {
     let fault = judge_cells(day, log, counts, places);
     if fault != 0 {
@@ -116,7 +120,8 @@ pub fn would_end(
     counts: &[u32],
     room: usize,
 ) -> Ending
-    ensures { λ a. ⌜ a ≡ wouldEnd state (now (log .entry)) (now (row .entry)) (now (book .entry)) (now (counts .entry)) room ⌝ }
+    ensures { λ a. ⌜ a ≡ wouldEnd state (now (log .entry)) (now (row .entry)) (now (book .entry))
+        (now (counts .entry)) room ⌝ }
 {
     let State::Open(day) = state else {
         return Ending::Refused(WRONG_STATE);
@@ -140,8 +145,12 @@ fn end_with(
     counts: &[u32],
     out: &mut [u8],
 ) -> Ended
-    requires { ⌜ (day .head ≡ headerOf (now log)) × GoodLog (day .head) (now log) × (cells (kindsOf (day .head .rulebook)) ≤ length (now counts)) × (length (now places) ≡ ladders (kindsOf (day .head .rulebook))) × (length (now book) ≡ bookSize (kindsOf (day .head .rulebook))) ⌝ }
-    ensures { λ a. ⌜ DayEnds (countsFault day (tablesOf (now (log .entry))) (now (counts .entry)) (length (now (out .entry)))) (day .head .date) (tablesOf (now (log .entry))) (now (book .entry)) (now (counts .entry)) (now (out .entry)) a (now (book .exit)) (now (out .exit)) ⌝ }
+    requires { ⌜ (day .head ≡ headerOf (now log)) × GoodLog (day .head) (now log) × (cells (kindsOf
+        (day .head .rulebook)) ≤ length (now counts)) × (length (now places) ≡ ladders (kindsOf
+        (day .head .rulebook))) × (length (now book) ≡ bookSize (kindsOf (day .head .rulebook))) ⌝ }
+    ensures { λ a. ⌜ DayEnds (countsFault day (tablesOf (now (log .entry))) (now (counts .entry)) (length
+        (now (out .entry)))) (day .head .date) (tablesOf (now (log .entry))) (now (book .entry)) (now (counts .entry))
+        (now (out .entry)) a (now (book .exit)) (now (out .exit)) ⌝ }
 {
     let fault = judge_cells(day, log, counts, places);
     if fault != 0 {
@@ -163,7 +172,8 @@ pub fn end(
     counts: &[u32],
     out: &mut [u8],
 ) -> Ended
-    ensures { λ a. ⌜ EndGives state (now (log .entry)) (now (row .entry)) (now (book .entry)) (now (counts .entry)) (now (out .entry)) a (now (book .exit)) (now (out .exit)) ⌝ }
+    ensures { λ a. ⌜ EndGives state (now (log .entry)) (now (row .entry)) (now (book .entry)) (now (counts .entry))
+        (now (out .entry)) a (now (book .exit)) (now (out .exit)) ⌝ }
 {
     let State::Open(day) = state else {
         return Ended::Refused(WRONG_STATE);

@@ -32,7 +32,8 @@ pub(crate) fn fill_families(text: Text, contracts: &[u8], fams: &mut [u8])
 // Goes up the contracts of the ladder's family, and stops at the first that reaches the number.
 fn place_at(text: Text, kinds: Kinds, fams: &[u8], counts: &[u32], ladder: usize) -> usize
     requires { ⌜ (length (now fams) ≤ 32) × (cells kinds ≤ length (now counts)) × (ladder < ladders kinds) ⌝ }
-    ensures { λ r. ⌜ (r ≡ placeAt text kinds (now (fams .entry)) (now (counts .entry)) ladder) × (r ≤ length (now (fams .entry))) ⌝ }
+    ensures { λ r. ⌜ (r ≡ placeAt text kinds (now (fams .entry)) (now (counts .entry)) ladder) × (r ≤ length
+        (now (fams .entry))) ⌝ }
 {
     let number = enough_of(text, kind_at(kinds, ladder));
     let family = (ladder % 16) as u8;
@@ -47,7 +48,8 @@ fn place_at(text: Text, kinds: Kinds, fams: &[u8], counts: &[u32], ladder: usize
 
 // Each ladder's lowest place: every ladder is judged once.
 pub(crate) fn fill_places(text: Text, kinds: Kinds, fams: &[u8], counts: &[u32], places: &mut [u8])
-    requires { ⌜ (length (now fams) ≤ 32) × (cells kinds ≤ length (now counts)) × (length (now places) ≡ ladders kinds) ⌝ }
+    requires { ⌜ (length (now fams) ≤ 32) × (cells kinds ≤ length (now counts)) ×
+        (length (now places) ≡ ladders kinds) ⌝ }
     ensures { λ _. ⌜ now (places .exit) ≡ placesIn text kinds (now (fams .entry)) (now (counts .entry)) ⌝ }
 {
     for l in 0..ladders_in(kinds) {

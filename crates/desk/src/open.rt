@@ -65,7 +65,8 @@ fn zero_first(c: &mut [u32], n: usize)
 
 // Opens a day: zeroes the rulebook's counts and no more. A refusal leaves the counts and the state.
 pub fn open(state: State, log: &[u8], book: &[u8], counts: &mut [u32]) -> Answer
-    ensures { λ a. ⌜ OpenGives state (now (log .entry)) (now (book .entry)) (now (counts .entry)) a (now (counts .exit)) ⌝ }
+    ensures { λ a. ⌜ OpenGives state (now (log .entry)) (now (book .entry)) (now (counts .entry)) a
+        (now (counts .exit)) ⌝ }
 {
     let fault = would_open(state, log, book, counts.len());
     if fault != 0 {

@@ -59,7 +59,8 @@ fn plan_fault(day: Day, p: Plan, counts: &[u32]) -> u32
 // A record against the day's tables, which are sound.
 fn weigh_record(day: Day, log: &[u8], row: &[u8], counts: &[u32]) -> Weighed
     requires { ⌜ (day .head ≡ headerOf (now log)) × GoodLog (day .head) (now log) ⌝ }
-    ensures { λ a. ⌜ a ≡ recordWeighed day (tablesOf (now (log .entry))) (recordOf (now (row .entry))) (now (counts .entry)) ⌝ }
+    ensures { λ a. ⌜ a ≡ recordWeighed day (tablesOf (now (log .entry))) (recordOf (now (row .entry)))
+        (now (counts .entry)) ⌝ }
 {
     let head = day.head;
     let middle = 16 + 8 * (head.contracts as usize);
@@ -102,7 +103,8 @@ pub fn would_take(state: State, log: &[u8], row: &[u8], counts: &[u32]) -> Weigh
 
 // Takes a record: raises none, one or two counts. A refusal leaves the counts and the state.
 pub fn take(state: State, log: &[u8], row: &[u8], counts: &mut [u32]) -> Answer
-    ensures { λ a. ⌜ TakeGives state (now (log .entry)) (now (row .entry)) (now (counts .entry)) a (now (counts .exit)) ⌝ }
+    ensures { λ a. ⌜ TakeGives state (now (log .entry)) (now (row .entry)) (now (counts .entry)) a
+        (now (counts .exit)) ⌝ }
 {
     let State::Open(day) = state else {
         return Answer::Refused(WRONG_STATE);

@@ -1,4 +1,5 @@
-// A day's verdict as bytes: each ladder's lowest place, the contracts' ids, the groups' members; and the day settled by it.
+// A day's verdict as bytes: each ladder's lowest place, the contracts' ids, the groups' members; and the day settled
+// by it.
 use crate::ladders::fill_families;
 use crate::ladders::fill_places;
 use book::shape::day_shape;
@@ -34,8 +35,10 @@ fn judge_with(
     counts: &[u32],
     places: &mut [u8],
 )
-    requires { ⌜ (length (now fams) ≡ entries (now contracts)) × (length (now contracts) ≤ 256) × (cells kinds ≤ length (now counts)) × (length (now places) ≡ ladders kinds) ⌝ }
-    ensures { λ _. ⌜ now (places .exit) ≡ placesIn text kinds (familiesIn text (now (contracts .entry))) (now (counts .entry)) ⌝ }
+    requires { ⌜ (length (now fams) ≡ entries (now contracts)) × (length (now contracts) ≤ 256) × (cells kinds
+        ≤ length (now counts)) × (length (now places) ≡ ladders kinds) ⌝ }
+    ensures { λ _. ⌜ now (places .exit) ≡ placesIn text kinds (familiesIn text (now (contracts .entry)))
+        (now (counts .entry)) ⌝ }
 {
     fill_families(text, contracts, fams);
     fill_places(text, kinds, fams, counts, places);
@@ -49,8 +52,10 @@ pub(crate) fn judge_day(
     counts: &[u32],
     places: &mut [u8],
 )
-    requires { ⌜ (length (now contracts) ≤ 256) × (cells kinds ≤ length (now counts)) × (length (now places) ≡ ladders kinds) ⌝ }
-    ensures { λ _. ⌜ now (places .exit) ≡ placesIn text kinds (familiesIn text (now (contracts .entry))) (now (counts .entry)) ⌝ }
+    requires { ⌜ (length (now contracts) ≤ 256) × (cells kinds ≤ length (now counts)) ×
+        (length (now places) ≡ ladders kinds) ⌝ }
+    ensures { λ _. ⌜ now (places .exit) ≡ placesIn text kinds (familiesIn text (now (contracts .entry)))
+        (now (counts .entry)) ⌝ }
 {
     let n = contracts.len() / 8;
     let mut fams = [0u8; 32];
@@ -97,7 +102,9 @@ fn settle_with(
     out: &mut [u8],
 ) -> Settled
     requires { ⌜ (length (now ids) ≡ 2 * entries (now contracts)) × (length (now members) ≡ 128) ⌝ }
-    ensures { λ a. ⌜ SettleGives (verdictIn (dayShape (h .rulebook)) (h .rulebook) (now (places .entry)) (idsIn (now (contracts .entry))) (membersIn (now (accounts .entry)))) (h .date) (now (book .entry)) (now (out .entry)) a (now (book .exit)) (now (out .exit)) ⌝ }
+    ensures { λ a. ⌜ SettleGives (verdictIn (dayShape (h .rulebook)) (h .rulebook) (now (places .entry)) (idsIn
+        (now (contracts .entry))) (membersIn (now (accounts .entry)))) (h .date) (now (book .entry))
+        (now (out .entry)) a (now (book .exit)) (now (out .exit)) ⌝ }
 {
     fill_ids(contracts, ids);
     fill_members(accounts, members);
@@ -122,7 +129,9 @@ pub(crate) fn settle_day(
     out: &mut [u8],
 ) -> Settled
     requires { ⌜ GoodLog h (now log) ⌝ }
-    ensures { λ a. ⌜ SettleGives (verdictIn (dayShape (h .rulebook)) (h .rulebook) (now (places .entry)) (idsIn (contractsPart h (now (log .entry)))) (membersIn (accountsPart h (now (log .entry))))) (h .date) (now (book .entry)) (now (out .entry)) a (now (book .exit)) (now (out .exit)) ⌝ }
+    ensures { λ a. ⌜ SettleGives (verdictIn (dayShape (h .rulebook)) (h .rulebook) (now (places .entry))
+        (idsIn (contractsPart h (now (log .entry)))) (membersIn (accountsPart h (now (log .entry))))) (h .date)
+        (now (book .entry)) (now (out .entry)) a (now (book .exit)) (now (out .exit)) ⌝ }
 {
     let n = h.contracts as usize;
     let middle = 16 + 8 * n;

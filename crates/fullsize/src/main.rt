@@ -1,5 +1,5 @@
-// The desk at full size: 32 contracts, 512 accounts, 1,000,000 records taken; then a day ended in which every ladder of all
-// 128 groups has an offence. bench/run times it beside plain Rust.
+// The desk at full size: 32 contracts, 512 accounts, 1,000,000 records taken; then a day ended in which every ladder
+// of all 128 groups has an offence. bench/run times it beside plain Rust.
 use daylog::header::header_of;
 use desk::end::Ended;
 use desk::state::Answer;

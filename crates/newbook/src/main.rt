@@ -1,5 +1,5 @@
-// Makes a fresh `book.axb` in the working folder, for the rulebook that its argument names. It never touches one that is
-// there.
+// Makes a fresh `book.axb` in the working folder, for the rulebook that its argument names. It never touches one that
+// is there.
 use book::fresh::NewBook;
 use book::places::MOST_BOOK;
 use book::places::book_size;

@@ -1,5 +1,5 @@
-// Replays a script of calls on the library and prints a line after each call: for support and for tests. A script's steps
-// set up the state and the buffers or make a call; one that breaks the rules gets `bad script` and ends there.
+// Replays a script of calls on the library and prints a line after each call: for support and for tests. A script's
+// steps set up the state and the buffers or make a call; one that breaks the rules gets `bad script` and ends there.
 mod call;
 mod line;
 mod script;
@@ -13,7 +13,8 @@ ghost use Prim.Native.Nat.{_≤_};
 ghost use lib.ListN.{length};
 ghost use Rattle.replay.specs.Within.{Within};
 
-// A step of which `one` has all the bytes, or none where it is cut off: a call on the parts in use, or a change of the setup.
+// A step of which `one` has all the bytes, or none where it is cut off: a call on the parts in use, or a change of
+// the setup.
 fn whole_step(
     one: &[u8],
     s: Setup,
@@ -22,7 +23,8 @@ fn whole_step(
     book: &mut [u8],
     tables: &mut [u8],
 ) -> Step
-    requires { ⌜ Within s × (length (now counts) ≡ 20000) × (length (now findings) ≡ 70000) × (length (now book) ≡ 20000) × (length (now tables) ≡ 8192) ⌝ }
+    requires { ⌜ Within s × (length (now counts) ≡ 20000) × (length (now findings) ≡ 70000) ×
+        (length (now book) ≡ 20000) × (length (now tables) ≡ 8192) ⌝ }
     ensures { λ r. ⌜ Within (r .setup) × (r .used ≤ length (now (one .entry))) ⌝ }
 {
     if !call::is_call(one) {
@@ -56,7 +58,8 @@ fn step(
     book: &mut [u8],
     tables: &mut [u8],
 ) -> Step
-    requires { ⌜ Within s × (length (now counts) ≡ 20000) × (length (now findings) ≡ 70000) × (length (now book) ≡ 20000) × (length (now tables) ≡ 8192) ⌝ }
+    requires { ⌜ Within s × (length (now counts) ≡ 20000) × (length (now findings) ≡ 70000) ×
+        (length (now book) ≡ 20000) × (length (now tables) ≡ 8192) ⌝ }
     ensures { λ r. ⌜ Within (r .setup) × (r .used ≤ length (now (rest .entry))) ⌝ }
 {
     let size = script::step_size(rest);
@@ -64,7 +67,8 @@ fn step(
 }
 
 fn replay(all: &[u8], counts: &mut [u32], findings: &mut [u8], book: &mut [u8], tables: &mut [u8])
-    requires { ⌜ (length (now all) ≤ 1000000) × (length (now counts) ≡ 20000) × (length (now findings) ≡ 70000) × (length (now book) ≡ 20000) × (length (now tables) ≡ 8192) ⌝ }
+    requires { ⌜ (length (now all) ≤ 1000000) × (length (now counts) ≡ 20000) × (length (now findings) ≡ 70000) ×
+        (length (now book) ≡ 20000) × (length (now tables) ≡ 8192) ⌝ }
 {
     let mut s = setup::start();
     let mut at = 0;

@@ -200,7 +200,8 @@ pub(crate) fn change(
     book: &mut [u8],
     tables: &mut [u8],
 ) -> Step
-    requires { ⌜ Within s × (length (now counts) ≡ 20000) × (length (now findings) ≡ 70000) × (length (now book) ≡ 20000) × (length (now tables) ≡ 8192) ⌝ }
+    requires { ⌜ Within s × (length (now counts) ≡ 20000) × (length (now findings) ≡ 70000) ×
+        (length (now book) ≡ 20000) × (length (now tables) ≡ 8192) ⌝ }
     ensures { λ r. ⌜ Within (r .setup) × (r .used ≤ length (now (one .entry))) ⌝ }
 {
     let letter = get8(one, 0);

@@ -21,8 +21,9 @@ family text type′ product =
 unfoldable pub rung : ℕ → ℕ
 rung total = pick (eqb total 0) 0 ((total - 1) % 3 + 1)
 
--- "rung 1 is 1 (call), rung 2 is 2 (watch list), rung 3 is 3 (no opening, at least one month). In rulebook 1, a group with
--- a member among that day's accounts has 1, 4 (talk with managers), 5 (no opening, at least three months)"; 0 is no sanction
+-- "rung 1 is 1 (call), rung 2 is 2 (watch list), rung 3 is 3 (no opening, at least one month). In rulebook 1, a group
+-- with a member among that day's accounts has 1, 4 (talk with managers), 5 (no opening, at least three months)"; 0 is
+-- no sanction
 unfoldable pub sanction : (rulebook kind rung′ : ℕ) → (member : Bool) → ℕ
 sanction rulebook kind rung′ member =
     pick (not (isKind kind && isRulebook rulebook)) 0

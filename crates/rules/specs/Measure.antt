@@ -24,7 +24,10 @@ large text amount largest =
 -- the table "Times on one contract in one day": self, frequent, large; 0 where the rulebook has no number
 unfoldable pub enough : Text → ℕ → Times
 enough text kind =
-    times (pick (eqb (text .rulebook) 1) (byThree kind 5 500 400 0) (pick (eqb (text .rulebook) 2) (byThree kind 5 500 100 0) 0))
+    times
+    (pick (eqb (text .rulebook) 1) (byThree kind 5 500 400 0)
+    (pick (eqb (text .rulebook) 2) (byThree kind 5 500 100 0)
+    0))
 
 -- "Reaching the number is enough." Where there is none, no number of times is.
 abbrev pub reached : Times → Times → Bool

@@ -43,7 +43,8 @@ fn by_three(x: u8, first: u8, second: u8, third: u8, other: u8) -> u8
     other
 }
 
-// The sanction for an offence of a kind on a rung, for a group with or without a member among the day's accounts; 0 for no sanction.
+// The sanction for an offence of a kind on a rung, for a group with or without a member among the day's accounts; 0
+// for no sanction.
 pub fn sanction_of(rulebook: u8, kind: u8, rung: u8, member: bool) -> u8
     ensures { λ r. ⌜ r ≡ sanction rulebook kind rung member ⌝ }
 {

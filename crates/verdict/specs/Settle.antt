@@ -5,7 +5,7 @@ use mathlib.Core.List.{List}
 use lib.Dec.{ltb, eqb}
 use lib.ListN.{length}
 use Rattle.wire.specs.Choice.{pick}
-use Rattle.wire.specs.Answers.{Outcome}
+use Rattle.wire.specs.Outcomes.{Outcome}
 use Rattle.wire.specs.Buffers.{put}
 use Rattle.book.specs.Places.{bookSize}
 use Rattle.verdict.specs.declared.settle.Settled.{Settled}
@@ -29,7 +29,8 @@ written v date book out = (bookAfter v date book, put out 0 (findings v date boo
 -- what `settle` gives: the number of findings, or the refusal; the book and the findings
 abbrev pub SettleGives : Verdict → (date : ℕ) → (book out : List ℕ) → Settled → (book′ out′ : List ℕ) → Type 0
 SettleGives v date book out a book′ out′ =
-    Outcome (settleFault v book out) (Found (foundCount v)) Refused (written v date book out) (book, out) a (book′, out′)
+    Outcome (settleFault v book out) (Found (foundCount v)) Refused
+    (written v date book out) (book, out) a (book′, out′)
 
 -- the paper's number of an answer: the refusal's, or 0 for none; and its value, the number of findings
 abbrev pub settleNumber : Settled → ℕ

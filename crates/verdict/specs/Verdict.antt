@@ -1,5 +1,5 @@
--- 01, "Ladders" and "The calls and their refusals": a day's findings as bytes and the book after the day, from each ladder's
--- lowest place.
+-- 01, "Ladders" and "The calls and their refusals": a day's findings as bytes and the book after the day, from each
+-- ladder's lowest place.
 use Prim.Native.Nat.{ℕ, _+_, _-_, _*_, _/_}
 use mathlib.Core.Bool.{Bool}
 use mathlib.Core.List.{List, [], _∷_, _++_}
@@ -37,7 +37,8 @@ offends v ladder = ltb (v .lowest ladder) (v .contracts)
 unfoldable pub foundCount : Verdict → ℕ
 foundCount v = count (offends v) (ladders (v .shape .kinds))
 
--- "group, kind, family, sanction, one byte each; the total, 16 bits; the lowest contract id that reached the number, 16 bits"
+-- "group, kind, family, sanction, one byte each; the total, 16 bits; the lowest contract id that reached the number,
+-- 16 bits"
 unfoldable pub finding : Kinds → (ladder sanction′ total id : ℕ) → List ℕ
 finding kinds ladder sanction′ total id =
     groupAt kinds ladder ∷ kindAt kinds ladder ∷ familyAt ladder ∷ sanction′ ∷ (bytes 2 total ++ bytes 2 id)

@@ -69,9 +69,12 @@ fn list_one(
     book: &[u8],
     ladder: usize,
 ) -> usize
-    requires { ⌜ (ladder < ladders (shape .kinds)) × (8 * (n + pick (offends (verdictIn shape rulebook (now places) (now ids) (now members)) ladder) 1 0) ≤ length (now out)) ⌝ }
-    ensures { λ r. ⌜ r ≡ n + pick (offends (verdictIn shape rulebook (now (places .entry)) (now (ids .entry)) (now (members .entry))) ladder) 1 0 ⌝ }
-    ensures { λ _. ⌜ now (out .exit) ≡ put (now (out .entry)) (8 * n) (foundAt (verdictIn shape rulebook (now (places .entry)) (now (ids .entry)) (now (members .entry))) date (now (book .entry)) ladder) ⌝ }
+    requires { ⌜ (ladder < ladders (shape .kinds)) × (8 * (n + pick (offends
+        (verdictIn shape rulebook (now places) (now ids) (now members)) ladder) 1 0) ≤ length (now out)) ⌝ }
+    ensures { λ r. ⌜ r ≡ n + pick (offends (verdictIn shape rulebook (now (places .entry)) (now (ids .entry))
+        (now (members .entry))) ladder) 1 0 ⌝ }
+    ensures { λ _. ⌜ now (out .exit) ≡ put (now (out .entry)) (8 * n) (foundAt (verdictIn shape rulebook
+        (now (places .entry)) (now (ids .entry)) (now (members .entry))) date (now (book .entry)) ladder) ⌝ }
 {
     let place = place_in(places, ladder);
     if place < ids.len() / 2 {
@@ -105,7 +108,8 @@ pub(crate) fn list_all(
     book: &[u8],
 )
     requires { ⌜ 8 * foundCount (verdictIn shape rulebook (now places) (now ids) (now members)) ≤ length (now out) ⌝ }
-    ensures { λ _. ⌜ now (out .exit) ≡ put (now (out .entry)) 0 (findings (verdictIn shape rulebook (now (places .entry)) (now (ids .entry)) (now (members .entry))) date (now (book .entry))) ⌝ }
+    ensures { λ _. ⌜ now (out .exit) ≡ put (now (out .entry)) 0 (findings (verdictIn shape rulebook
+        (now (places .entry)) (now (ids .entry)) (now (members .entry))) date (now (book .entry))) ⌝ }
 {
     let kinds = shape.kinds;
     let mut n = 0;

@@ -33,9 +33,12 @@ fn write_day(
     book: &mut [u8],
     out: &mut [u8],
 )
-    requires { ⌜ (length (now book) ≡ bookSize (shape .kinds)) × (8 * foundCount (verdictIn shape rulebook (now places) (now ids) (now members)) ≤ length (now out)) ⌝ }
-    ensures { λ _. ⌜ now (book .exit) ≡ bookAfter (verdictIn shape rulebook (now (places .entry)) (now (ids .entry)) (now (members .entry))) date (now (book .entry)) ⌝ }
-    ensures { λ _. ⌜ now (out .exit) ≡ put (now (out .entry)) 0 (findings (verdictIn shape rulebook (now (places .entry)) (now (ids .entry)) (now (members .entry))) date (now (book .entry))) ⌝ }
+    requires { ⌜ (length (now book) ≡ bookSize (shape .kinds)) × (8 * foundCount
+        (verdictIn shape rulebook (now places) (now ids) (now members)) ≤ length (now out)) ⌝ }
+    ensures { λ _. ⌜ now (book .exit) ≡ bookAfter (verdictIn shape rulebook (now (places .entry)) (now (ids .entry))
+        (now (members .entry))) date (now (book .entry)) ⌝ }
+    ensures { λ _. ⌜ now (out .exit) ≡ put (now (out .entry)) 0 (findings (verdictIn shape rulebook
+        (now (places .entry)) (now (ids .entry)) (now (members .entry))) date (now (book .entry))) ⌝ }
 {
     let kinds = shape.kinds;
     list_all(out, shape, rulebook, date, places, ids, members, book);
@@ -44,8 +47,9 @@ fn write_day(
     put_head(book, shape.letter, rulebook, date);
 }
 
-// Writes the findings and the book, or refuses and leaves both. `places` has each ladder's lowest place, a byte each, `ids` the
-// contracts' ids, 16 bits each, `members` a byte for each group, 1 where it has a member among the day's accounts.
+// Writes the findings and the book, or refuses and leaves both. `places` has each ladder's lowest place, a byte each,
+// `ids` the contracts' ids, 16 bits each, `members` a byte for each group, 1 where it has a member among the day's
+// accounts.
 pub fn settle(
     shape: Shape,
     rulebook: u8,
@@ -56,7 +60,8 @@ pub fn settle(
     book: &mut [u8],
     out: &mut [u8],
 ) -> Settled
-    ensures { λ a. ⌜ SettleGives (verdictIn shape rulebook (now (places .entry)) (now (ids .entry)) (now (members .entry))) date (now (book .entry)) (now (out .entry)) a (now (book .exit)) (now (out .exit)) ⌝ }
+    ensures { λ a. ⌜ SettleGives (verdictIn shape rulebook (now (places .entry)) (now (ids .entry))
+        (now (members .entry))) date (now (book .entry)) (now (out .entry)) a (now (book .exit)) (now (out .exit)) ⌝ }
 {
     let kinds = shape.kinds;
     if book.len() != book_size(kinds) {

@@ -11,7 +11,8 @@ ghost use Rattle.verdict.specs.Way.{totalBytes};
 // Each group's part of the book is lent on.
 pub(crate) fn raise_all(book: &mut [u8], kinds: Kinds, later: bool, places: &[u8], contracts: usize)
     requires { ⌜ length (now book) ≡ bookSize kinds ⌝ }
-    ensures { λ _. ⌜ now (book .exit) ≡ put (now (book .entry)) 16 (rows (totalBytes later (now (places .entry)) (now (book .entry)) contracts) (ladders kinds)) ⌝ }
+    ensures { λ _. ⌜ now (book .exit) ≡ put (now (book .entry)) 16 (rows (totalBytes later (now (places .entry))
+        (now (book .entry)) contracts) (ladders kinds)) ⌝ }
 {
     let own = 16 * kinds_in(kinds);
     for g in 0..128 {

@@ -5,7 +5,7 @@ use Prim.Native.Nat.{ℕ}
 use borrow.Author.Tests.{eqb-true, eq-eqb, ne-eqb}
 use lib.Dec.{eqb}
 use Rattle.wire.specs.Choice.{pick, orElse}
-use Rattle.wire.specs.Answers.{answered, Outcome}
+use Rattle.wire.specs.Outcomes.{answered, Outcome}
 use Rattle.wire.proofs.ChoiceLaws.{pick-yes, pick-no, or-else, or-first-by}
 
 -- ---- the answer alone; `r` makes a refusal of a number

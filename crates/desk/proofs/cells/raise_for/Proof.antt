@@ -2,7 +2,8 @@ use mathlib.Core.Path.{sym, _∙_}
 use Prim.Native.Nat.{_≤_}
 use native.Mathlib.Omega.{arith}
 use lib.ListN.{getD}
-use Rattle.desk.specs.Cells.{Small, cellFor, raisedFor}
+use Rattle.desk.specs.Cells.{cellFor, raisedFor}
+use Rattle.desk.specs.Way.{Small}
 use borrow.Author.Needs.{needs}
 use Rattle.desk.proofs.cells.raise_for.Statement.{statement}
 use Rattle.desk.proofs.cells.raise_for.Tie as tie

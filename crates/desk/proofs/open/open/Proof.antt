@@ -6,7 +6,7 @@ use Rattle.wire.proofs.AnswerLaws.{refused, done}
 use Rattle.daylog.specs.Header.{headerOf}
 use Rattle.book.specs.Places.{cells}
 use Rattle.desk.specs.Open.{kindsFor, openFault, zeroed}
-use Rattle.desk.proofs.CallLaws.{room-opened}
+use Rattle.desk.proofs.HandedLaws.{room-opened}
 use borrow.Author.Needs.{needs}
 use Rattle.desk.proofs.open.open.Statement.{statement}
 use Rattle.desk.proofs.open.open.Tie as tie

@@ -10,7 +10,7 @@ use Rattle.desk.specs.Cells.{cellsChanged}
 use Rattle.desk.specs.Open.{kindsFor}
 use Rattle.desk.specs.Take.{callFault, planFault, dayFault, takeFault, planIn, dayWeighed}
 use Rattle.desk.proofs.WeighLaws.{weighed-no, weighed-yes}
-use Rattle.desk.proofs.CallLaws.{sound-call, plan-fits, day-fits}
+use Rattle.desk.proofs.HandedLaws.{sound-call, plan-fits, day-fits}
 use borrow.Author.Needs.{needs}
 use Rattle.desk.proofs.take.take.Statement.{statement}
 use Rattle.desk.proofs.take.take.Tie as tie

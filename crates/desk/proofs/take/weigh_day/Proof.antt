@@ -1,7 +1,7 @@
 use mathlib.Core.Path.{sym, _∙_}
 use Rattle.wire.proofs.AnswerLaws.{answer-first, answer-then}
 use Rattle.desk.specs.Take.{dayFault, recordWeighed, dayWeighed}
-use Rattle.desk.proofs.CallLaws.{sound-call}
+use Rattle.desk.proofs.HandedLaws.{sound-call}
 use borrow.Author.Needs.{needs}
 use Rattle.desk.proofs.take.weigh_day.Statement.{statement}
 use Rattle.desk.proofs.take.weigh_day.Tie as tie

@@ -10,7 +10,7 @@ use Rattle.desk.specs.declared.judge.Weighed.the-variants.{Counts}
 use Rattle.desk.specs.Counting.{planOf, fieldsFault, weighed}
 use Rattle.desk.specs.Take.{recordFault, recordWeighed}
 use Rattle.desk.proofs.WeighLaws.{weighed-no, weighed-yes}
-use Rattle.desk.proofs.CallLaws.{lent-tables, lent-short}
+use Rattle.desk.proofs.HandedLaws.{lent-tables, lent-short}
 use borrow.Author.Needs.{needs}
 use Rattle.desk.proofs.take.weigh_record.Statement.{statement}
 use Rattle.desk.proofs.take.weigh_record.Tie as tie

@@ -47,8 +47,7 @@ unfolding foundIn
 found-low kinds places contracts n e = omega (arith, count-le (hitAt places contracts) (ladders kinds), few kinds)
 
 -- the buffer of places is long enough for every rulebook
-pub places-fit : (rulebook : ℕ) (k : Kinds) (n : ℕ) → k ≡ kindsOf rulebook → n ≡ ladders k → n ≤ 6144
-unfolding mostKinds
+pub places-fit : (rulebook : ℕ) (k : Kinds) (n : ℕ) → k ≡ kindsOf rulebook → n ≡ ladders k → n ≤ 2048 * mostKinds
 places-fit rulebook k n e is = omega (arith, ap kindsIn e, kinds-most rulebook)
 
 -- how many contracts the lent part has

@@ -1,5 +1,5 @@
 use lib.ListN.{length-take}
-use Rattle.rules.specs.Kinds.{kindsIn}
+use Rattle.rules.specs.Kinds.{kindsIn, mostKinds}
 use Rattle.desk.proofs.EndLaws.{handed, book-long, places-fit}
 use Rattle.desk.specs.End.{endFault}
 use Rattle.wire.proofs.AnswerLaws.{refused, refused-first, then-by}
@@ -45,9 +45,11 @@ part-places-start : tie.Need-part-places-start
 part-places-start c = search needs
 
 part-places-end : tie.Need-part-places-end
+unfolding mostKinds
 part-places-end c = places-fit (c .before .before .before .before .before .before .before .before .state .given .0 .0 .head .rulebook) _ _ (c .before .kinds-of .ensures) (c .ladders-in .ensures)
 
 end-with-requires : tie.Need-end-with-requires
+unfolding mostKinds
 end-with-requires c κs =
     let s = c .before .before .before .before .before .before .before .before .before .before .before .state .given in
     let a = c .before .before .before .before .before .before .before .before .before .before .before .before .before .before .before .before .before .before .args in

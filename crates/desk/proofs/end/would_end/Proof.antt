@@ -1,5 +1,5 @@
 use lib.ListN.{length-take}
-use Rattle.rules.specs.Kinds.{kindsIn}
+use Rattle.rules.specs.Kinds.{kindsIn, mostKinds}
 use Rattle.desk.proofs.EndLaws.{handed, places-fit}
 use Rattle.desk.specs.End.{endFault, dayFound}
 use Rattle.desk.specs.declared.end.Ending.the-variants.{Refused as NotFound}
@@ -43,9 +43,11 @@ part-places-start : tie.Need-part-places-start
 part-places-start c = search needs
 
 part-places-end : tie.Need-part-places-end
+unfolding mostKinds
 part-places-end c = places-fit (c .before .before .before .before .before .before .before .state .given .0 .0 .head .rulebook) _ _ (c .before .kinds-of .ensures) (c .ladders-in .ensures)
 
 find-with-requires : tie.Need-find-with-requires
+unfolding mostKinds
 find-with-requires c κs =
     let s = c .before .before .before .before .before .before .before .before .state .given in
     let a = c .before .before .before .before .before .before .before .before .before .before .before .before .before .before .args in

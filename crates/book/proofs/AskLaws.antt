@@ -11,7 +11,7 @@ use Rattle.wire.proofs.ChoiceLaws.{pick-zero, and-left, and-right, bounds}
 use Rattle.rules.specs.declared.kinds.Kinds.{Kinds}
 use Rattle.rules.specs.Kinds.{kindsIn, firstKind}
 use Rattle.book.specs.declared.shape.Shape.{Shape}
-use Rattle.book.specs.Places.{HasLadder}
+use Rattle.places.specs.Places.{HasLadder}
 use Rattle.book.specs.Sound.{soundAs}
 use Rattle.book.specs.Ask.{inRange, askFaultAs}
 

@@ -21,7 +21,7 @@ use Rattle.calendar.proofs.DateLaws.{number-most}
 use Rattle.rules.specs.Codes.{isRulebook}
 use Rattle.rules.specs.Kinds.{kindsOf}
 use Rattle.book.specs.declared.shape.Shape.{Shape}
-use Rattle.book.specs.Places.{ladders, bookSize}
+use Rattle.places.specs.Places.{ladders, bookSize}
 use Rattle.book.specs.Shape.{dayShape, rulebookOf, shapeOf}
 use Rattle.book.specs.Layout.{headOf, bookAs, bookOf, lastDate, totalAt}
 use Rattle.book.specs.Sound.{markGood, headGood, mostOf, totalsGood, soundAs, sound}

@@ -13,7 +13,7 @@ use Rattle.wire.proofs.ChoiceLaws.{pick-zero}
 use Rattle.wire.proofs.BufferLaws.{put-in, put-whole, then}
 use Rattle.rules.specs.Codes.{isRulebook}
 use Rattle.book.specs.declared.shape.Shape.{Shape}
-use Rattle.book.specs.Places.{ladders, bookSize}
+use Rattle.places.specs.Places.{ladders, bookSize}
 use Rattle.book.specs.Shape.{rulebookOf}
 use Rattle.book.specs.Layout.{headOf, bookAs, lastDate, totalAt}
 use Rattle.book.specs.Sound.{soundAs}

@@ -1,4 +1,3 @@
-pub mod LadderLaws
 pub mod SoundLaws
 pub mod BookLaws
 pub mod WriteLaws

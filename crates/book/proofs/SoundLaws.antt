@@ -7,7 +7,7 @@ use borrow.Author.Tests.{eq-eqb, ne-eqb}
 use lib.ListN.{length}
 use Rattle.calendar.specs.Dates.{dayNumber}
 use Rattle.book.specs.declared.shape.Shape.{Shape}
-use Rattle.book.specs.Places.{bookSize}
+use Rattle.places.specs.Places.{bookSize}
 use Rattle.book.specs.Shape.{rulebookOf}
 use Rattle.book.specs.Layout.{lastDate}
 use Rattle.book.specs.Sound.{headGood, totalsGood, soundAs}

@@ -20,12 +20,6 @@ use Rattle.book.proofs.raise.next_total.Reads as next-total
 use Rattle.book.proofs.raise.place_in.Reads as place-in
 use Rattle.book.proofs.raise.raise_group.Reads as raise-group
 use Rattle.book.proofs.shape.day_shape.Reads as day-shape
-use Rattle.book.proofs.places.ladders_in.Reads as ladders-in
-use Rattle.book.proofs.places.cells_in.Reads as cells-in
-use Rattle.book.proofs.places.book_size.Reads as book-size
-use Rattle.book.proofs.places.group_at.Reads as group-at
-use Rattle.book.proofs.places.kind_at.Reads as kind-at
-use Rattle.book.proofs.places.cell_of.Reads as cell-of
 
 pub is-sound-as-unique : (κs : _) (a : _) (r₁ r₂ : Bool) (s₁ s₂ : _)
     → is-sound-as.Post κs a r₁ s₁ → is-sound-as.Post κs a r₂ s₂ → r₁ ≡ r₂
@@ -78,27 +72,3 @@ raise-group-unique κs a r₁ r₂ s₁ s₂ p q = p ∙ sym q
 pub day-shape-unique : (κs : _) (a : _) (r₁ r₂ : Shape) (s₁ s₂ : _)
     → day-shape.Post κs a r₁ s₁ → day-shape.Post κs a r₂ s₂ → r₁ ≡ r₂
 day-shape-unique κs a r₁ r₂ s₁ s₂ p q = p ∙ sym q
-
-pub ladders-in-unique : (κs : _) (a : _) (r₁ r₂ : ℕ) (s₁ s₂ : _)
-    → ladders-in.Post κs a r₁ s₁ → ladders-in.Post κs a r₂ s₂ → r₁ ≡ r₂
-ladders-in-unique κs a r₁ r₂ s₁ s₂ p q = p ∙ sym q
-
-pub cells-in-unique : (κs : _) (a : _) (r₁ r₂ : ℕ) (s₁ s₂ : _)
-    → cells-in.Post κs a r₁ s₁ → cells-in.Post κs a r₂ s₂ → r₁ ≡ r₂
-cells-in-unique κs a r₁ r₂ s₁ s₂ p q = p ∙ sym q
-
-pub book-size-unique : (κs : _) (a : _) (r₁ r₂ : ℕ) (s₁ s₂ : _)
-    → book-size.Post κs a r₁ s₁ → book-size.Post κs a r₂ s₂ → r₁ ≡ r₂
-book-size-unique κs a r₁ r₂ s₁ s₂ p q = p ∙ sym q
-
-pub group-at-unique : (κs : _) (a : _) (r₁ r₂ : ℕ) (s₁ s₂ : _)
-    → group-at.Post κs a r₁ s₁ → group-at.Post κs a r₂ s₂ → r₁ ≡ r₂
-group-at-unique κs a r₁ r₂ s₁ s₂ p q = p ∙ sym q
-
-pub kind-at-unique : (κs : _) (a : _) (r₁ r₂ : ℕ) (s₁ s₂ : _)
-    → kind-at.Post κs a r₁ s₁ → kind-at.Post κs a r₂ s₂ → r₁ ≡ r₂
-kind-at-unique κs a r₁ r₂ s₁ s₂ p q = p ∙ sym q
-
-pub cell-of-unique : (κs : _) (a : _) (r₁ r₂ : ℕ) (s₁ s₂ : _)
-    → cell-of.Post κs a r₁ s₁ → cell-of.Post κs a r₂ s₂ → r₁ ≡ r₂
-cell-of-unique κs a r₁ r₂ s₁ s₂ p q = p ∙ sym q

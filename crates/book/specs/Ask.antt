@@ -11,7 +11,7 @@ use Rattle.rules.specs.Ladders.{rung}
 use Rattle.book.specs.declared.shape.Shape.{Shape}
 use Rattle.book.specs.declared.ask.Asked.{Asked}
 use Rattle.book.specs.declared.ask.Asked.the-variants.{Total, Refused}
-use Rattle.book.specs.Places.{ladderOf}
+use Rattle.places.specs.Places.{ladderOf}
 use Rattle.book.specs.Layout.{totalAt}
 use Rattle.book.specs.Sound.{soundAs}
 

@@ -10,7 +10,7 @@ use Rattle.rules.specs.Codes.{isRulebook}
 use Rattle.book.specs.declared.shape.Shape.{Shape}
 use Rattle.book.specs.declared.fresh.NewBook.{NewBook}
 use Rattle.book.specs.declared.fresh.NewBook.the-variants.{Made, Refused}
-use Rattle.book.specs.Places.{bookSize}
+use Rattle.places.specs.Places.{bookSize}
 use Rattle.book.specs.Layout.{bookAs}
 
 -- "4: rulebook number"; "17: for a fresh one, length not 12,304"

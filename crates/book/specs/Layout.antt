@@ -5,7 +5,7 @@ use mathlib.Core.List.{List, [], _∷_, _++_}
 use Rattle.wire.specs.Bytes.{le, bytes}
 use Rattle.wire.specs.Buffers.{rows}
 use Rattle.book.specs.declared.shape.Shape.{Shape}
-use Rattle.book.specs.Places.{ladders}
+use Rattle.places.specs.Places.{ladders}
 use Rattle.book.specs.Shape.{dayShape}
 
 -- the three bytes of the mark: "AX" and the shape's letter

@@ -1,4 +1,3 @@
-pub mod Places
 pub mod Shape
 pub mod Layout
 pub mod Sound

@@ -12,7 +12,7 @@ use Rattle.calendar.specs.Dates.{realDay, dayNumber}
 use Rattle.rules.specs.declared.kinds.Kinds.{Kinds}
 use Rattle.rules.specs.Codes.{isRulebook}
 use Rattle.book.specs.declared.shape.Shape.{Shape}
-use Rattle.book.specs.Places.{ladders, bookSize, familyAt}
+use Rattle.places.specs.Places.{ladders, bookSize, familyAt}
 use Rattle.book.specs.Shape.{rulebookOf, shapeOf}
 use Rattle.book.specs.Layout.{mark, lastDate, totalAt}
 

@@ -7,7 +7,7 @@ use rules::kinds::kinds_in;
 use wire::refusal::NOT_SOUND;
 use wire::refusal::OUT_OF_RANGE;
 ghost use mathlib.Core.Path.{_≡_};
-ghost use Rattle.book.specs.Places.{HasLadder, ladderOf};
+ghost use Rattle.places.specs.Places.{HasLadder, ladderOf};
 ghost use Rattle.book.specs.Ask.{inRange, askFaultAs, askAnswerAs};
 
 pub enum Asked {

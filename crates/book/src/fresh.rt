@@ -1,8 +1,8 @@
 // Making a fresh book.
 use crate::head::put_head;
-use crate::places::book_size;
-use crate::places::ladders_in;
 use crate::shape::Shape;
+use places::book_size;
+use places::ladders_in;
 use rules::kinds::Kinds;
 use rules::text::is_rulebook;
 use wire::refusal::NOT_SOUND;
@@ -12,7 +12,7 @@ ghost use mathlib.Core.Path.{_≡_};
 ghost use lib.ListN.{length};
 ghost use Rattle.wire.specs.Buffers.{put, rows};
 ghost use Rattle.wire.specs.Bytes.{bytes};
-ghost use Rattle.book.specs.Places.{ladders, bookSize};
+ghost use Rattle.places.specs.Places.{ladders, bookSize};
 ghost use Rattle.book.specs.Fresh.{freshFaultAs, FreshGivesAs};
 
 pub enum NewBook {

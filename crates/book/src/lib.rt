@@ -3,7 +3,6 @@ pub mod ask;
 pub mod fits;
 pub mod fresh;
 pub mod head;
-pub mod places;
 pub mod raise;
 pub mod shape;
 pub mod sound;

@@ -1,9 +1,9 @@
 // Whether a book is sound.
 use crate::head::MARK;
-use crate::places::book_size;
-use crate::places::ladders_in;
 use crate::shape::Shape;
 use crate::shape::day_shape;
+use places::book_size;
+use places::ladders_in;
 use rules::kinds::Kinds;
 use rules::text::is_rulebook;
 use wire::read::get8;

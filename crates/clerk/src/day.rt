@@ -1,10 +1,10 @@
 // One day of the desk, from standard input: opened, its records taken, ended.
 use crate::input::Got;
 use crate::input::fill_from_input;
-use book::places::MOST_CELLS;
 use desk::end::Ended;
 use desk::state::Answer;
 use desk::state::State;
+use places::MOST_CELLS;
 use wire::refusal::FULL;
 use wire::refusal::LENGTH;
 ghost use Prim.Native.Nat.{_≤_};

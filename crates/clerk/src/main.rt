@@ -5,9 +5,9 @@ mod input;
 mod keep;
 mod print;
 
-use book::places::MOST_BOOK;
-use book::places::MOST_FINDINGS;
 use day::Outcome;
+use places::MOST_BOOK;
+use places::MOST_FINDINGS;
 
 // The findings go out before the book is replaced: where they cannot be printed, the day may be run again.
 fn finish(log: &[u8], book: &[u8], findings: &[u8], found: usize) {

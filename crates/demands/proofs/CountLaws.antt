@@ -13,8 +13,8 @@ use Rattle.wire.specs.Choice.{pick}
 use Rattle.wire.proofs.ChoiceLaws.{pick-no}
 use Rattle.rules.specs.declared.kinds.Kinds.{Kinds}
 use Rattle.rules.proofs.KindLaws.{first-low}
-use Rattle.book.specs.Places.{cells, cellOf, HasCell}
-use Rattle.book.proofs.LadderLaws.{cell-there, cell-test}
+use Rattle.places.specs.Places.{cells, cellOf, HasCell}
+use Rattle.places.proofs.LadderLaws.{cell-there, cell-test}
 use Rattle.desk.specs.declared.judge.Plan.{Plan}
 use Rattle.desk.specs.Counting.{countsAs}
 use Rattle.desk.specs.Cells.{cellFor, bumped, raisedFor, raised}

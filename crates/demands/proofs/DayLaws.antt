@@ -24,11 +24,11 @@ use Rattle.daylog.specs.Records.{recordOf}
 use Rattle.daylog.specs.Rows.{rowSize}
 use Rattle.daylog.specs.Tables.{tablesIn, tablesOf}
 use Rattle.daylog.specs.Changed.{sameHeader, tablesChanged}
-use Rattle.book.specs.Places.{ladders, cells, cellOf, groupAt, kindAt, familyAt, HasCell}
+use Rattle.places.specs.Places.{ladders, cells, cellOf, groupAt, kindAt, familyAt, HasCell}
 use Rattle.book.specs.Shape.{dayShape}
 use Rattle.book.specs.Layout.{headOf, bookAs, bookOf}
 use Rattle.book.specs.Fits.{bookFault}
-use Rattle.book.proofs.LadderLaws.{row-at, cell-there, cell-in, cell-is}
+use Rattle.places.proofs.LadderLaws.{row-at, cell-there, cell-in, cell-is}
 use Rattle.verdict.specs.Verdict.{foundCount, findings, bookAfter}
 use Rattle.verdict.specs.Settle.{shortFault}
 use Rattle.verdict.proofs.SameVerdict.{Same, same-count, same-findings, same-book}

@@ -14,7 +14,7 @@ use Rattle.calendar.specs.Dates.{year}
 use Rattle.rules.specs.declared.kinds.Kinds.{Kinds}
 use Rattle.rules.specs.Codes.{isRulebook}
 use Rattle.rules.specs.Kinds.{kindsOf}
-use Rattle.book.specs.Places.{ladders}
+use Rattle.places.specs.Places.{ladders}
 use Rattle.book.specs.Shape.{dayShape, rulebookOf}
 use Rattle.book.specs.Sound.{sound}
 use Rattle.book.specs.Fits.{bookFault}

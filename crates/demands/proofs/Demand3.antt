@@ -8,7 +8,7 @@ use Rattle.rules.specs.declared.kinds.Kinds.{Kinds}
 use Rattle.rules.specs.declared.kinds.Kinds.the-variants.{One, Three, Four}
 use Rattle.rules.specs.Kinds.{kindsOf, kindsIn, firstKind}
 use Rattle.rules.proofs.KindLaws.{kinds-begin}
-use Rattle.book.specs.Places.{HasCell}
+use Rattle.places.specs.Places.{HasCell}
 use Rattle.book.specs.Sound.{sound}
 use Rattle.daylog.specs.Tables.{tablesOf}
 use Rattle.desk.specs.Offences.{kindsOn}

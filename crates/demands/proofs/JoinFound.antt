@@ -15,7 +15,7 @@ use Rattle.rules.specs.Measure.{times, enough, reached}
 use Rattle.rules.specs.Ladders.{rung, sanction}
 use Rattle.book.specs.declared.shape.Shape.{Shape}
 use Rattle.book.specs.Shape.{dayShape}
-use Rattle.book.specs.Places.{groupAt, kindAt, familyAt}
+use Rattle.places.specs.Places.{groupAt, kindAt, familyAt}
 use Rattle.book.specs.Layout.{lastDate, totalAt}
 use Rattle.book.specs.Raise.{laterYear, nextTotal}
 use Rattle.daylog.specs.declared.record.Record.{Record}

@@ -14,7 +14,7 @@ use Rattle.rules.specs.declared.kinds.Kinds.{Kinds}
 use Rattle.rules.specs.Kinds.{mostKinds}
 use Rattle.rules.proofs.KindLaws.{kinds-most}
 use Rattle.book.specs.Shape.{dayShape, rulebookOf}
-use Rattle.book.specs.Places.{cells}
+use Rattle.places.specs.Places.{cells}
 use Rattle.book.specs.Ask.{inRange, askFaultAs}
 use Rattle.book.specs.Sound.{sound}
 use Rattle.book.specs.Fits.{bookFault}

@@ -15,12 +15,12 @@ use Rattle.rules.specs.declared.kinds.Kinds.{Kinds}
 use Rattle.rules.specs.declared.text.Text.{Text}
 use Rattle.rules.specs.Kinds.{kindsOf}
 use Rattle.book.specs.Shape.{dayShape, rulebookOf, shapeOf}
-use Rattle.book.specs.Places.{ladders, bookSize, ladderOf, groupAt, kindAt, familyAt, HasLadder}
+use Rattle.places.specs.Places.{ladders, bookSize, ladderOf, groupAt, kindAt, familyAt, HasLadder}
 use Rattle.book.specs.Layout.{lastDate, totalAt}
 use Rattle.book.specs.Sound.{sound}
 use Rattle.book.specs.Fits.{fitsFault, bookFault}
 use Rattle.book.proofs.BookLaws.{sound-facts}
-use Rattle.book.proofs.LadderLaws.{ladder-there, group-of, kind-of, family-of}
+use Rattle.places.proofs.LadderLaws.{ladder-there, group-of, kind-of, family-of}
 use Rattle.daylog.specs.declared.header.Header.{Header}
 use Rattle.daylog.specs.declared.record.Record.{Record}
 use Rattle.daylog.specs.Header.{headerOf, logFault}

@@ -13,7 +13,7 @@ use Rattle.rules.proofs.KindLaws.{kinds-most}
 use Rattle.daylog.specs.declared.record.Record.{Record}
 use Rattle.daylog.specs.Header.{headerOf}
 use Rattle.daylog.specs.Records.{recordOf}
-use Rattle.book.specs.Places.{cells}
+use Rattle.places.specs.Places.{cells}
 use Rattle.desk.specs.Cells.{raised}
 use Rattle.desk.specs.Take.{takeFault, planIn}
 use Rattle.desk.specs.Open.{kindsFor, openFault, handedFault, zeroed}

@@ -16,9 +16,9 @@ use Rattle.wire.proofs.KeptLaws.{part-at, kept-length, kept-at}
 use Rattle.wire.proofs.PlaceLaws.{count-le, first-below, first-some, Passes, Passed, count-below, count-rises, passed, first-passes}
 use Rattle.rules.specs.declared.kinds.Kinds.{Kinds}
 use Rattle.rules.proofs.KindLaws.{kinds-most}
-use Rattle.book.specs.Places.{ladders, groupAt, kindAt, familyAt}
+use Rattle.places.specs.Places.{ladders, groupAt, kindAt, familyAt}
 use Rattle.book.specs.Shape.{dayShape}
-use Rattle.book.proofs.LadderLaws.{ladder-of}
+use Rattle.places.proofs.LadderLaws.{ladder-of}
 use Rattle.daylog.specs.declared.record.Record.{Record}
 use Rattle.daylog.specs.Tables.{Tables}
 use Rattle.verdict.specs.Verdict.{offends, foundCount, finding, sanctionAt, foundAt, findings}

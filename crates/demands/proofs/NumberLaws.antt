@@ -12,7 +12,7 @@ use Rattle.wire.proofs.AnswerLaws.{answer-number}
 use Rattle.rules.specs.declared.kinds.Kinds.{Kinds}
 use Rattle.rules.specs.Kinds.{kindsOf}
 use Rattle.book.specs.declared.fresh.NewBook.the-variants.{Made, Refused as NotMade}
-use Rattle.book.specs.Places.{bookSize}
+use Rattle.places.specs.Places.{bookSize}
 use Rattle.book.specs.Shape.{dayShape, rulebookOf, shapeOf}
 use Rattle.book.specs.Fresh.{freshNumber, freshFaultAs}
 use Rattle.book.specs.Ask.{askNumber, askFaultAs, askAnswerAs}

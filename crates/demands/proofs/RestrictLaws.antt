@@ -16,7 +16,7 @@ use Rattle.rules.specs.Choices.{byThree}
 use Rattle.rules.specs.Codes.{isRulebook, isKind}
 use Rattle.rules.specs.Measure.{enough}
 use Rattle.rules.specs.Ladders.{rung, sanction}
-use Rattle.book.specs.Places.{groupAt, kindAt}
+use Rattle.places.specs.Places.{groupAt, kindAt}
 use Rattle.daylog.specs.declared.record.Record.{Record}
 use Rattle.daylog.specs.Tables.{Tables, memberOn}
 use Rattle.desk.specs.Offences.{kindsOn, familyOf}

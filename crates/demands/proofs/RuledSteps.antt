@@ -12,7 +12,7 @@ use Rattle.wire.proofs.ChoiceLaws.{pick-no, flip-no, or-else}
 use Rattle.wire.proofs.AnswerLaws.{answer-done}
 use Rattle.rules.specs.Kinds.{kindsOf}
 use Rattle.rules.proofs.KindLaws.{kinds-most}
-use Rattle.book.specs.Places.{cells}
+use Rattle.places.specs.Places.{cells}
 use Rattle.book.specs.Shape.{rulebookOf}
 use Rattle.book.specs.Layout.{lastDate}
 use Rattle.book.specs.Sound.{sound}

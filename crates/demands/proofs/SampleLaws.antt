@@ -9,7 +9,7 @@ use Rattle.wire.specs.Choice.{pick}
 use Rattle.wire.proofs.ChoiceLaws.{pick-yes, pick-no, pick-le}
 use Rattle.calendar.specs.Dates.{realDay, dayNumber}
 use Rattle.rules.specs.Kinds.{kindsOf}
-use Rattle.book.specs.Places.{ladders, familyAt}
+use Rattle.places.specs.Places.{ladders, familyAt}
 use Rattle.book.specs.Shape.{dayShape, rulebookOf}
 use Rattle.book.specs.Layout.{lastDate, totalAt}
 use Rattle.book.specs.Sound.{mostOf, soundAs, sound}

@@ -20,7 +20,7 @@ use Rattle.daylog.specs.Header.{headerOf, accountsPart, logFault}
 use Rattle.daylog.specs.Entries.{entries}
 use Rattle.daylog.specs.Tables.{Tables, tablesIn, tablesOf, accountOf, contractOf, hasAccount, hasContract, groupOf}
 use Rattle.daylog.proofs.FaultLaws.{log-sound}
-use Rattle.book.specs.Places.{HasCell}
+use Rattle.places.specs.Places.{HasCell}
 use Rattle.desk.specs.Counting.{planFor, planOf, countsFor, countsAs, fieldsFault}
 use Rattle.desk.specs.Offences.{kindsOn}
 

@@ -16,7 +16,7 @@ use Rattle.rules.specs.Codes.{isRulebook}
 use Rattle.rules.specs.Kinds.{kindsOf}
 use Rattle.rules.specs.Ladders.{rung, sanction}
 use Rattle.book.specs.declared.shape.Shape.{Shape}
-use Rattle.book.specs.Places.{ladders, groupAt, kindAt}
+use Rattle.places.specs.Places.{ladders, groupAt, kindAt}
 use Rattle.book.specs.Shape.{dayShape, rulebookOf, shapeOf}
 use Rattle.book.specs.Layout.{lastDate, totalAt}
 use Rattle.book.specs.Raise.{laterYear}

@@ -23,7 +23,7 @@ use Rattle.rules.specs.Measure.{enough}
 use Rattle.rules.specs.Ladders.{family, rung, sanction}
 use Rattle.rules.specs.Kinds.{kindsOf, kindsIn, firstKind}
 use Rattle.rules.proofs.KindLaws.{few, kinds-most}
-use Rattle.book.specs.Places.{ladders, ladderOf, groupAt, kindAt}
+use Rattle.places.specs.Places.{ladders, ladderOf, groupAt, kindAt}
 use Rattle.book.specs.Shape.{dayShape}
 use Rattle.book.specs.Layout.{bookAs}
 use Rattle.book.specs.Sound.{soundAs, sound}

@@ -17,7 +17,7 @@ use Rattle.rules.specs.Exemption.{known, exempt}
 use Rattle.rules.specs.Measure.{enough}
 use Rattle.rules.specs.Ladders.{family}
 use Rattle.rules.specs.Kinds.{kindsOf, kindsIn, firstKind}
-use Rattle.book.specs.Places.{ladders, ladderOf}
+use Rattle.places.specs.Places.{ladders, ladderOf}
 use Rattle.book.specs.Layout.{lastDate, totalAt}
 use Rattle.daylog.specs.declared.record.Record.{Record}
 use Rattle.daylog.specs.Contracts.{contractAt, idBefore, contractsGood, contractPlace}

@@ -9,7 +9,7 @@ use Rattle.rules.specs.Measure.{times, enough, reached}
 use Rattle.daylog.specs.declared.record.Record.{Record}
 use Rattle.daylog.specs.Tables.{Tables}
 use Rattle.desk.specs.Counting.{countsFor}
-use Rattle.book.specs.Places.{groupAt, kindAt, familyAt}
+use Rattle.places.specs.Places.{groupAt, kindAt, familyAt}
 use Rattle.verdict.specs.Verdict.{Verdict}
 use Rattle.desk.specs.Offences.{kindsOn, familyOf, verdictOn}
 

@@ -13,7 +13,7 @@ use Rattle.wire.specs.Buffers.{put, rows}
 use Rattle.calendar.specs.Dates.{year}
 use Rattle.rules.specs.Kinds.{kindsOf}
 use Rattle.book.specs.Shape.{rulebookOf}
-use Rattle.book.specs.Places.{ladders}
+use Rattle.places.specs.Places.{ladders}
 use Rattle.book.specs.Layout.{lastDate, totalAt}
 use Rattle.book.specs.Sound.{sound}
 use Rattle.daylog.specs.declared.record.Record.{Record}

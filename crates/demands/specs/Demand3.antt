@@ -12,7 +12,7 @@ use Rattle.rules.specs.declared.kinds.Kinds.{Kinds}
 use Rattle.rules.specs.Kinds.{kindsOf, mostKinds}
 use Rattle.rules.specs.Codes.{isRulebook}
 use Rattle.book.specs.Shape.{rulebookOf}
-use Rattle.book.specs.Places.{ladders, ladderOf, groupAt, HasCell, HasLadder}
+use Rattle.places.specs.Places.{ladders, ladderOf, groupAt, HasCell, HasLadder}
 use Rattle.book.specs.Layout.{totalAt}
 use Rattle.daylog.specs.Tables.{tablesOf}
 use Rattle.desk.specs.declared.state.State.the-variants.{Closed}

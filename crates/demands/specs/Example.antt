@@ -7,7 +7,7 @@ use lib.Dec.{eqb}
 use lib.ListN.{replicate}
 use Rattle.wire.specs.Choice.{pick}
 use Rattle.rules.specs.Kinds.{kindsOf}
-use Rattle.book.specs.Places.{ladderOf}
+use Rattle.places.specs.Places.{ladderOf}
 use Rattle.daylog.specs.declared.record.Record.{Record}
 use Rattle.daylog.specs.Tables.{Tables}
 use Rattle.demands.specs.Days.{PastDay, blank}

@@ -7,7 +7,7 @@ use Rattle.daylog.specs.declared.record.Record.{Record}
 use Rattle.daylog.specs.Tables.{tablesOf}
 use Rattle.rules.specs.declared.kinds.Kinds.{Kinds}
 use Rattle.rules.specs.Kinds.{mostKinds}
-use Rattle.book.specs.Places.{cellOf, HasCell}
+use Rattle.places.specs.Places.{cellOf, HasCell}
 use Rattle.desk.specs.Offences.{kindsOn}
 use Rattle.demands.specs.Counts.{timesOf}
 use Rattle.demands.specs.Calls.{Step}

@@ -7,7 +7,7 @@ use Prim.Native.Nat.{ℕ, _+_, _*_, _<_}
 use lib.ListN.{length, getD, take, drop}
 use Rattle.rules.specs.Ladders.{rung, sanction}
 use Rattle.rules.specs.declared.kinds.Kinds.{Kinds}
-use Rattle.book.specs.Places.{ladders, ladderOf, groupAt, kindAt}
+use Rattle.places.specs.Places.{ladders, ladderOf, groupAt, kindAt}
 use Rattle.verdict.specs.Verdict.{finding, totalAfter}
 use Rattle.daylog.specs.declared.record.Record.{Record}
 use Rattle.daylog.specs.Tables.{Tables, memberOn}

@@ -11,7 +11,7 @@ use Rattle.calendar.specs.Dates.{year}
 use Rattle.rules.specs.Ladders.{rung, sanction}
 use Rattle.rules.specs.Kinds.{kindsOf}
 use Rattle.book.specs.Shape.{rulebookOf}
-use Rattle.book.specs.Places.{ladders, groupAt, kindAt}
+use Rattle.places.specs.Places.{ladders, groupAt, kindAt}
 use Rattle.daylog.specs.Tables.{memberOn}
 use Rattle.desk.specs.Offences.{kindsOn}
 use Rattle.demands.specs.Days.{PastDay, offenceOn, totalOver, foundOn}

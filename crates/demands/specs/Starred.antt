@@ -12,7 +12,7 @@ use Rattle.rules.specs.declared.measure.Lots.{Lots}
 use Rattle.rules.specs.Measure.{lots, large}
 use Rattle.rules.specs.Ladders.{rung}
 use Rattle.rules.specs.Kinds.{kindsOf}
-use Rattle.book.specs.Places.{ladderOf}
+use Rattle.places.specs.Places.{ladderOf}
 use Rattle.book.specs.Sound.{sound}
 use Rattle.daylog.specs.declared.record.Record.{Record}
 use Rattle.daylog.specs.Tables.{Tables}

@@ -8,7 +8,7 @@ use Prim.Native.Nat.{ℕ}
 use lib.ListN.{take, drop, replicate}
 use Rattle.wire.specs.Buffers.{put}
 use Rattle.rules.specs.Kinds.{kindsOf}
-use Rattle.book.specs.Places.{ladderOf}
+use Rattle.places.specs.Places.{ladderOf}
 use Rattle.desk.specs.End.{endFound}
 use Rattle.demands.specs.Samples.{bookWithOne}
 use Rattle.demands.specs.Calls.{Step, makeBook, openDay, takeRecord, endDay, abandonDay, askBook, lendFindings, Reply, made, moved, ended, told, lent, Desk, Given, numbers, Ran, left, fullRoom}

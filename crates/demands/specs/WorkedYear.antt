@@ -5,7 +5,7 @@ use mathlib.Core.List.{List, [], _∷_, _++_}
 use Prim.Native.Nat.{ℕ, _+_}
 use lib.ListN.{replicate}
 use Rattle.rules.specs.Kinds.{kindsOf}
-use Rattle.book.specs.Places.{ladderOf}
+use Rattle.places.specs.Places.{ladderOf}
 use Rattle.book.specs.Layout.{totalAt}
 use Rattle.demands.specs.Days.{blank}
 use Rattle.demands.specs.Calls.{Step, takeRecord, Desk, Given, numbers, left}

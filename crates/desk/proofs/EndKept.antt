@@ -15,7 +15,7 @@ use Rattle.rules.specs.Choices.{byThree}
 use Rattle.rules.specs.Ladders.{family}
 use Rattle.daylog.specs.Header.{headerOf}
 use Rattle.daylog.specs.Tables.{Tables, tablesIn, tablesOf}
-use Rattle.book.specs.Places.{ladders, familyAt}
+use Rattle.places.specs.Places.{ladders, familyAt}
 use Rattle.book.specs.Shape.{dayShape, rulebookOf}
 use Rattle.book.specs.Layout.{lastDate, totalAt}
 use Rattle.book.specs.Raise.{laterYear}

@@ -17,7 +17,7 @@ use Rattle.daylog.specs.Entries.{entries}
 use Rattle.daylog.specs.Header.{headerOf}
 use Rattle.daylog.specs.GoodLog.{GoodLog}
 use Rattle.daylog.specs.Tables.{tablesOf}
-use Rattle.book.specs.Places.{ladders, bookSize, cells}
+use Rattle.places.specs.Places.{ladders, bookSize, cells}
 use Rattle.book.specs.Raise.{hitAt}
 use Rattle.book.specs.Shape.{dayShape, shapeOf}
 use Rattle.book.specs.Fits.{bookFault}

@@ -16,7 +16,7 @@ use Rattle.daylog.specs.Records.{recordOf}
 use Rattle.daylog.specs.Tables.{tablesIn, tablesOf}
 use Rattle.daylog.proofs.ChangedLaws.{unchanged}
 use Rattle.daylog.proofs.FaultLaws.{log-sound}
-use Rattle.book.specs.Places.{cells}
+use Rattle.places.specs.Places.{cells}
 use Rattle.book.specs.Fits.{bookFault}
 use Rattle.desk.specs.declared.state.Day.{Day}
 use Rattle.desk.specs.declared.state.State.{State}

@@ -10,8 +10,8 @@ use Rattle.rules.specs.declared.text.Text.{Text}
 use Rattle.rules.specs.declared.kinds.Kinds.{Kinds}
 use Rattle.rules.specs.declared.measure.Times.{Times}
 use Rattle.rules.specs.Measure.{times, enough, reached}
-use Rattle.book.specs.Places.{kindAt, familyAt}
-use Rattle.book.proofs.LadderLaws.{ladder-cell}
+use Rattle.places.specs.Places.{kindAt, familyAt}
+use Rattle.places.proofs.LadderLaws.{ladder-cell}
 use Rattle.desk.specs.Offences.{reachedAt, lowest}
 use Rattle.desk.specs.End.{inCells}
 use Rattle.desk.specs.Way.{placeAt}

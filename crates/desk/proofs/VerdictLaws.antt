@@ -29,7 +29,7 @@ use Rattle.daylog.specs.Entries.{entries}
 use Rattle.daylog.specs.Contracts.{contractAt, contractIn}
 use Rattle.daylog.specs.Accounts.{accountAt, hasMember}
 use Rattle.daylog.specs.Tables.{Tables, tablesIn, tablesOf, memberOn}
-use Rattle.book.specs.Places.{ladders, groupAt, kindAt, familyAt}
+use Rattle.places.specs.Places.{ladders, groupAt, kindAt, familyAt}
 use Rattle.book.specs.Shape.{dayShape}
 use Rattle.book.specs.Raise.{placeIn}
 use Rattle.verdict.specs.Verdict.{Verdict, verdictIn, foundCount, foundIn}

@@ -6,7 +6,7 @@ use lib.Dec.{ltb}
 use lib.ListN.{getD, set}
 use Rattle.wire.specs.Choice.{pick}
 use Rattle.rules.specs.declared.kinds.Kinds.{Kinds}
-use Rattle.book.specs.Places.{cellOf}
+use Rattle.places.specs.Places.{cellOf}
 use Rattle.desk.specs.declared.judge.Plan.{Plan}
 use Rattle.desk.specs.Counting.{countsAs}
 

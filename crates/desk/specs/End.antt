@@ -11,7 +11,7 @@ use Rattle.wire.specs.Bytes.{le}
 use Rattle.rules.specs.declared.kinds.Kinds.{Kinds}
 use Rattle.daylog.specs.Records.{endGood}
 use Rattle.daylog.specs.Tables.{Tables, tablesOf}
-use Rattle.book.specs.Places.{cells, cellOf, groupAt, kindAt}
+use Rattle.places.specs.Places.{cells, cellOf, groupAt, kindAt}
 use Rattle.book.specs.Fits.{bookFault}
 use Rattle.verdict.specs.Verdict.{Verdict, foundCount}
 use Rattle.verdict.specs.Settle.{shortFault, written}

@@ -10,7 +10,7 @@ use Rattle.rules.specs.Kinds.{kindsOf}
 use Rattle.rules.specs.Measure.{times, enough, reached}
 use Rattle.rules.specs.Ladders.{family}
 use Rattle.daylog.specs.Tables.{Tables, memberOn}
-use Rattle.book.specs.Places.{kindAt, familyAt}
+use Rattle.places.specs.Places.{kindAt, familyAt}
 use Rattle.book.specs.Shape.{dayShape}
 use Rattle.verdict.specs.Verdict.{Verdict}
 

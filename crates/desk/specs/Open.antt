@@ -8,7 +8,7 @@ use Rattle.rules.specs.declared.kinds.Kinds.{Kinds}
 use Rattle.rules.specs.Kinds.{kindsOf}
 use Rattle.daylog.specs.declared.header.Header.{Header}
 use Rattle.daylog.specs.Header.{headerOf, logFault}
-use Rattle.book.specs.Places.{cells}
+use Rattle.places.specs.Places.{cells}
 use Rattle.book.specs.Fits.{bookFault}
 use Rattle.desk.specs.declared.state.Day.{Day}
 use Rattle.desk.specs.declared.state.State.{State}

@@ -11,7 +11,7 @@ use Rattle.daylog.specs.Header.{headerOf}
 use Rattle.daylog.specs.Records.{recordLength, recordOf}
 use Rattle.daylog.specs.Tables.{Tables, tablesOf}
 use Rattle.daylog.specs.Changed.{tablesChanged}
-use Rattle.book.specs.Places.{cells}
+use Rattle.places.specs.Places.{cells}
 use Rattle.desk.specs.declared.state.Day.{Day}
 use Rattle.desk.specs.declared.state.State.{State}
 use Rattle.desk.specs.declared.state.State.the-variants.{Closed, Open}

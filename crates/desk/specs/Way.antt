@@ -16,7 +16,7 @@ use Rattle.daylog.specs.Header.{textOf, contractsPart}
 use Rattle.daylog.specs.Entries.{entries}
 use Rattle.daylog.specs.Contracts.{contractIn}
 use Rattle.daylog.specs.Accounts.{accountAt, hasMember}
-use Rattle.book.specs.Places.{ladders}
+use Rattle.places.specs.Places.{ladders}
 use Rattle.desk.specs.declared.judge.Plan.{Plan}
 use Rattle.desk.specs.Counting.{countsAs}
 use Rattle.desk.specs.Cells.{cellFor}

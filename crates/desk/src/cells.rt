@@ -1,6 +1,6 @@
 // The cells that a record raises.
 use crate::judge::Plan;
-use book::places::cell_of;
+use places::cell_of;
 use rules::kinds::Kinds;
 ghost use mathlib.Core.Path.{_≡_};
 ghost use mathlib.Core.Bool.{true, false};

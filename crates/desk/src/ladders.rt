@@ -1,8 +1,8 @@
 // Which contract, if any, reaches each ladder's number.
-use book::places::cells_in;
-use book::places::kind_at;
-use book::places::ladders_in;
 use daylog::contracts::contract_at;
+use places::cells_in;
+use places::kind_at;
+use places::ladders_in;
 use rules::kinds::Kinds;
 use rules::ladder::family_of;
 use rules::measure::Times;
@@ -14,7 +14,7 @@ ghost use mathlib.Core.Path.{_≡_};
 ghost use Prim.Native.Nat.{_≤_, _<_};
 ghost use lib.ListN.{length};
 ghost use Rattle.daylog.specs.Entries.{entries};
-ghost use Rattle.book.specs.Places.{ladders, cells};
+ghost use Rattle.places.specs.Places.{ladders, cells};
 ghost use Rattle.desk.specs.End.{cellsGood};
 ghost use Rattle.desk.specs.Way.{familiesIn, placeAt, placesIn};
 

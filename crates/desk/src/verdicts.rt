@@ -20,7 +20,7 @@ ghost use Rattle.wire.specs.Choice.{pick};
 ghost use Rattle.daylog.specs.GoodLog.{GoodLog};
 ghost use Rattle.daylog.specs.Entries.{entries};
 ghost use Rattle.daylog.specs.Header.{textOf, contractsPart, accountsPart};
-ghost use Rattle.book.specs.Places.{ladders, cells};
+ghost use Rattle.places.specs.Places.{ladders, cells};
 ghost use Rattle.book.specs.Shape.{dayShape};
 ghost use Rattle.verdict.specs.Verdict.{verdictIn};
 ghost use Rattle.verdict.specs.Settle.{SettleGives};

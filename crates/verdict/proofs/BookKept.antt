@@ -11,7 +11,7 @@ use Rattle.wire.specs.Choice.{pick}
 use Rattle.wire.proofs.ChoiceLaws.{pick-yes, pick-no, pick-le}
 use Rattle.calendar.specs.Dates.{year, realDay, dayNumber}
 use Rattle.calendar.proofs.DateLaws.{real, number-least, number-most, number-rises}
-use Rattle.book.specs.Places.{ladders, familyAt}
+use Rattle.places.specs.Places.{ladders, familyAt}
 use Rattle.book.specs.Shape.{rulebookOf}
 use Rattle.book.specs.Layout.{lastDate, totalAt}
 use Rattle.book.specs.Raise.{laterYear, nextTotal}

@@ -16,7 +16,7 @@ use Rattle.wire.proofs.PlaceLaws.{count-more, count-up}
 use Rattle.wire.proofs.BufferLaws.{put-four, put-none, then, rows-more}
 use Rattle.wire.proofs.TurnLaws.{then-in}
 use Rattle.rules.specs.declared.kinds.Kinds.{Kinds}
-use Rattle.book.specs.Places.{groupAt, kindAt, familyAt}
+use Rattle.places.specs.Places.{groupAt, kindAt, familyAt}
 use Rattle.verdict.specs.Verdict.{Verdict, offends, finding, foundAt}
 
 pub finding-length : (kinds : Kinds) (ladder sanction total id : ℕ) → length (finding kinds ladder sanction total id) ≡ 8

@@ -15,10 +15,10 @@ use Rattle.wire.proofs.BufferLaws.{then-row, rows-cong, rows-length, rows-rows,
 use Rattle.rules.specs.declared.kinds.Kinds.{Kinds}
 use Rattle.rules.specs.Kinds.{kindsIn}
 use Rattle.rules.proofs.KindLaws.{few}
-use Rattle.book.specs.Places.{bookSize}
+use Rattle.places.specs.Places.{bookSize}
 use Rattle.book.specs.Layout.{totalAt}
 use Rattle.book.specs.Raise.{nextTotal, hitAt, raisedPart}
-use Rattle.book.proofs.LadderLaws.{part-there, parts-there}
+use Rattle.places.proofs.LadderLaws.{part-there, parts-there}
 use Rattle.verdict.specs.Way.{totalBytes}
 
 -- a part that comes back is put where it was lent from

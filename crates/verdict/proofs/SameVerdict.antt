@@ -17,10 +17,10 @@ use Rattle.wire.proofs.PlaceLaws.{count-cong}
 use Rattle.wire.proofs.BufferLaws.{rows-cong}
 use Rattle.rules.specs.declared.kinds.Kinds.{Kinds}
 use Rattle.rules.specs.Ladders.{rung, sanction}
-use Rattle.book.specs.Places.{ladders, bookSize, groupAt, kindAt}
+use Rattle.places.specs.Places.{ladders, bookSize, groupAt, kindAt}
 use Rattle.book.specs.Layout.{headOf, bookAs, totalAt}
 use Rattle.book.specs.Raise.{laterYear, nextTotal}
-use Rattle.book.proofs.LadderLaws.{group-low}
+use Rattle.places.proofs.LadderLaws.{group-low}
 use Rattle.verdict.specs.declared.settle.Settled.{Settled}
 use Rattle.verdict.specs.declared.settle.Settled.the-variants.{Found, Refused}
 use Rattle.verdict.specs.Settle.{shortFault, settleFault, SettleGives}

@@ -13,7 +13,7 @@ use Rattle.wire.proofs.PlaceLaws.{count-le}
 use Rattle.wire.proofs.BufferLaws.{put-in, put-both, length-put, rows-length}
 use Rattle.rules.specs.declared.kinds.Kinds.{Kinds}
 use Rattle.book.specs.declared.shape.Shape.{Shape}
-use Rattle.book.specs.Places.{ladders, bookSize}
+use Rattle.places.specs.Places.{ladders, bookSize}
 use Rattle.book.specs.Layout.{headOf, bookAs}
 use Rattle.book.specs.Raise.{laterYear}
 use Rattle.book.proofs.BookLaws.{head-length}

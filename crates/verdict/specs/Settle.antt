@@ -7,7 +7,7 @@ use lib.ListN.{length}
 use Rattle.wire.specs.Choice.{pick}
 use Rattle.wire.specs.Outcomes.{Outcome}
 use Rattle.wire.specs.Buffers.{put}
-use Rattle.book.specs.Places.{bookSize}
+use Rattle.places.specs.Places.{bookSize}
 use Rattle.verdict.specs.declared.settle.Settled.{Settled}
 use Rattle.verdict.specs.declared.settle.Settled.the-variants.{Found, Refused}
 use Rattle.verdict.specs.Verdict.{Verdict, foundCount, findings, bookAfter}

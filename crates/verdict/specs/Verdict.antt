@@ -12,7 +12,7 @@ use Rattle.wire.specs.Buffers.{rows}
 use Rattle.rules.specs.declared.kinds.Kinds.{Kinds}
 use Rattle.rules.specs.Ladders.{rung, sanction}
 use Rattle.book.specs.declared.shape.Shape.{Shape}
-use Rattle.book.specs.Places.{ladders, groupAt, kindAt, familyAt}
+use Rattle.places.specs.Places.{ladders, groupAt, kindAt, familyAt}
 use Rattle.book.specs.Layout.{totalAt, bookAs}
 use Rattle.book.specs.Raise.{laterYear, nextTotal, placeIn, hitAt}
 

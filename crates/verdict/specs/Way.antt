@@ -7,7 +7,7 @@ use lib.ListN.{getD}
 use Rattle.wire.specs.Bytes.{bytes}
 use Rattle.rules.specs.declared.kinds.Kinds.{Kinds}
 use Rattle.rules.specs.Ladders.{rung, sanction}
-use Rattle.book.specs.Places.{groupAt, kindAt}
+use Rattle.places.specs.Places.{groupAt, kindAt}
 use Rattle.book.specs.Layout.{totalAt}
 use Rattle.book.specs.Raise.{nextTotal, hitAt}
 

@@ -1,11 +1,11 @@
 // The day's findings, 8 bytes each, in the order group, kind, family.
-use book::places::group_at;
-use book::places::kind_at;
-use book::places::ladders_in;
 use book::raise::is_later_year;
 use book::raise::next_total;
 use book::raise::place_in;
 use book::shape::Shape;
+use places::group_at;
+use places::kind_at;
+use places::ladders_in;
 use rules::kinds::Kinds;
 use rules::ladder::rung_of;
 use rules::ladder::sanction_of;
@@ -17,7 +17,7 @@ ghost use Prim.Native.Nat.{_+_, _*_, _≤_, _<_};
 ghost use lib.ListN.{length};
 ghost use Rattle.wire.specs.Choice.{pick};
 ghost use Rattle.wire.specs.Buffers.{put, rows};
-ghost use Rattle.book.specs.Places.{ladders};
+ghost use Rattle.places.specs.Places.{ladders};
 ghost use Rattle.verdict.specs.Verdict.{verdictIn, offends, foundCount, finding, foundAt, findings};
 ghost use Rattle.verdict.specs.Way.{sanctionFor};
 

@@ -3,16 +3,16 @@ use crate::count::count_found;
 use crate::findings::list_all;
 use crate::totals::raise_all;
 use book::head::put_head;
-use book::places::book_size;
 use book::raise::is_later_year;
 use book::shape::Shape;
+use places::book_size;
 use wire::refusal::FINDINGS_SHORT;
 use wire::refusal::NOT_SOUND;
 ghost use mathlib.Core.Path.{_≡_};
 ghost use Prim.Native.Nat.{_*_, _≤_};
 ghost use lib.ListN.{length};
 ghost use Rattle.wire.specs.Buffers.{put};
-ghost use Rattle.book.specs.Places.{bookSize};
+ghost use Rattle.places.specs.Places.{bookSize};
 ghost use Rattle.verdict.specs.Verdict.{verdictIn, foundCount, findings, bookAfter};
 ghost use Rattle.verdict.specs.Settle.{SettleGives};
 

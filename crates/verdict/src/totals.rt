@@ -5,7 +5,7 @@ use rules::kinds::kinds_in;
 ghost use mathlib.Core.Path.{_≡_};
 ghost use lib.ListN.{length};
 ghost use Rattle.wire.specs.Buffers.{put, rows};
-ghost use Rattle.book.specs.Places.{ladders, bookSize};
+ghost use Rattle.places.specs.Places.{ladders, bookSize};
 ghost use Rattle.verdict.specs.Way.{totalBytes};
 
 // Each group's part of the book is lent on.

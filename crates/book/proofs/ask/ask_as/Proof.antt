@@ -2,7 +2,7 @@ use mathlib.Core.Path.{sym, _∙_}
 use native.Mathlib.Omega.{arith}
 use Rattle.wire.proofs.AnswerLaws.{answer-refused, answer-done}
 use Rattle.book.specs.Ask.{askAnswerAs}
-use Rattle.book.proofs.LadderLaws.{ladder-few}
+use Rattle.places.proofs.LadderLaws.{ladder-few}
 use Rattle.book.proofs.AskLaws.{asking}
 use borrow.Author.Needs.{needs}
 use Rattle.book.proofs.ask.ask_as.Statement.{statement}

@@ -2,7 +2,7 @@ use Prim.Native.Nat.{_-_}
 use native.Mathlib.Omega.{arith}
 use Rattle.rules.proofs.KindLaws.{few}
 use borrow.Author.Needs.{needs}
-use Rattle.book.proofs.LadderLaws.{few-times}
+use Rattle.places.proofs.LadderLaws.{few-times}
 use Rattle.book.proofs.ask.ladder_of.Statement.{statement}
 use Rattle.book.proofs.ask.ladder_of.Tie as tie
 

@@ -1,7 +1,7 @@
 use mathlib.Core.Path.{sym, _∙_}
 use borrow.Author.Tests.{eq-eqb, ne-eqb}
 use Rattle.wire.proofs.ChoiceLaws.{chain}
-use Rattle.book.specs.Places.{bookSize}
+use Rattle.places.specs.Places.{bookSize}
 use Rattle.book.specs.Fresh.{freshFaultAs}
 use borrow.Author.Needs.{needs}
 use Rattle.book.proofs.fresh.fresh_fault.Statement.{statement}

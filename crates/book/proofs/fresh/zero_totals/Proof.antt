@@ -7,7 +7,7 @@ use Rattle.wire.specs.Bytes.{bytes}
 use Rattle.wire.specs.Buffers.{put, rows}
 use Rattle.wire.proofs.BufferLaws.{no-rows}
 use Rattle.wire.proofs.TurnLaws.{pair-turn}
-use Rattle.book.specs.Places.{ladders}
+use Rattle.places.specs.Places.{ladders}
 use Rattle.book.proofs.fresh.zero_totals.Statement.{statement}
 use Rattle.book.proofs.fresh.zero_totals.Tie as tie
 

@@ -7,7 +7,7 @@ use lib.Dec.{leb}
 use Rattle.wire.specs.Places.{every}
 use Rattle.wire.proofs.PlaceLaws.{every-none, every-next}
 use Rattle.rules.proofs.KindLaws.{few}
-use Rattle.book.specs.Places.{ladders}
+use Rattle.places.specs.Places.{ladders}
 use Rattle.book.specs.Layout.{totalAt}
 use Rattle.book.specs.Sound.{mostOf, totalsGood}
 use Rattle.book.proofs.sound.totals_good.Statement.{statement}

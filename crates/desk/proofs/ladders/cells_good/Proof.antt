@@ -1,5 +1,5 @@
 use Rattle.desk.specs.End.{cellsGood}
-use Rattle.book.specs.Places.{cells}
+use Rattle.places.specs.Places.{cells}
 use Rattle.wire.proofs.PlaceLaws.{every-none, every-next}
 use Rattle.wire.specs.Places.{every}
 use lib.ListN.{getD}

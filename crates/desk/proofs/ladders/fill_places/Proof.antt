@@ -1,5 +1,5 @@
 use Rattle.desk.specs.Way.{placeAt, placesIn}
-use Rattle.book.specs.Places.{ladders}
+use Rattle.places.specs.Places.{ladders}
 use Rattle.rules.proofs.KindLaws.{few}
 use Rattle.wire.proofs.TurnLaws.{byte-turn, bytes-all}
 use Rattle.wire.proofs.BufferLaws.{no-rows}

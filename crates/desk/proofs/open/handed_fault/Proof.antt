@@ -2,7 +2,7 @@ use mathlib.Core.Path.{_≡_, refl, sym, _∙_, ap}
 use borrow.Author.Tests.{lt-ltb, le-ltb}
 use Rattle.wire.proofs.ChoiceLaws.{pick-yes, pick-no, or-first-by, or-else-by}
 use Rattle.daylog.specs.Header.{headerOf, logFault}
-use Rattle.book.specs.Places.{cells}
+use Rattle.places.specs.Places.{cells}
 use Rattle.book.specs.Fits.{bookFault}
 use Rattle.desk.specs.Open.{kindsFor, fewFault, handedFault}
 use borrow.Author.Needs.{needs}

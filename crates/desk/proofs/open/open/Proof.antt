@@ -4,7 +4,7 @@ use Prim.Native.Nat.{ℕ}
 use lib.ListN.{length, drop, replicate}
 use Rattle.wire.proofs.AnswerLaws.{refused, done}
 use Rattle.daylog.specs.Header.{headerOf}
-use Rattle.book.specs.Places.{cells}
+use Rattle.places.specs.Places.{cells}
 use Rattle.desk.specs.Open.{kindsFor, openFault, zeroed}
 use Rattle.desk.proofs.HandedLaws.{room-opened}
 use borrow.Author.Needs.{needs}

@@ -1,7 +1,7 @@
 use mathlib.Core.Path.{_≡_, refl, sym, _∙_, ap}
 use borrow.Author.Tests.{lt-ltb, le-ltb, eq-eqb, ne-eqb}
 use Rattle.wire.proofs.ChoiceLaws.{pick-yes, pick-no, told, flip-yes, flip-no}
-use Rattle.book.specs.Places.{cells}
+use Rattle.places.specs.Places.{cells}
 use Rattle.desk.specs.Open.{kindsFor}
 use Rattle.desk.specs.Take.{callFault}
 use borrow.Author.Needs.{needs}

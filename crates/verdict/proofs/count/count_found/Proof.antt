@@ -1,4 +1,4 @@
-use Rattle.book.specs.Places.{ladders}
+use Rattle.places.specs.Places.{ladders}
 use Rattle.rules.proofs.KindLaws.{few}
 use Rattle.wire.specs.Choice.{pick}
 use lib.Dec.{ltb}

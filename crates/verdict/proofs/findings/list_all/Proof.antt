@@ -1,7 +1,7 @@
 use Rattle.rules.proofs.KindLaws.{few}
 use Rattle.verdict.proofs.FoundLaws.{count-room, found-turn}
 use Rattle.verdict.specs.Verdict.{verdictIn, offends, foundCount, foundAt, findings}
-use Rattle.book.specs.Places.{ladders}
+use Rattle.places.specs.Places.{ladders}
 use Rattle.wire.proofs.BufferLaws.{no-rows}
 use Rattle.wire.proofs.PlaceLaws.{count-none, count-more}
 use Rattle.wire.specs.Buffers.{put, rows}

@@ -1,5 +1,5 @@
 use Rattle.verdict.proofs.FoundLaws.{finding-written}
-use Rattle.book.proofs.LadderLaws.{group-low}
+use Rattle.places.proofs.LadderLaws.{group-low}
 use lib.ListN.{length-set}
 use native.Mathlib.Omega.{arith}
 use borrow.Author.Needs.{needs}

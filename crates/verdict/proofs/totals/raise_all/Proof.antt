@@ -1,4 +1,4 @@
-use Rattle.book.specs.Places.{ladders}
+use Rattle.places.specs.Places.{ladders}
 use Rattle.verdict.proofs.RaiseLaws.{groupBytes, part-fits, parts-fit, group-turn, raised-length, all-groups}
 use Rattle.rules.proofs.KindLaws.{few}
 use Rattle.wire.proofs.BufferLaws.{no-rows}

@@ -3,9 +3,9 @@ use Prim.Native.Nat.{ℕ, _+_, _/_, _%_}
 use native.Mathlib.Omega.{arith}
 use Rattle.rules.proofs.KindLaws.{few}
 use borrow.Author.Needs.{needs}
-use Rattle.book.proofs.LadderLaws.{few-first, few-kinds}
-use Rattle.book.proofs.places.kind_at.Statement.{statement}
-use Rattle.book.proofs.places.kind_at.Tie as tie
+use Rattle.places.proofs.LadderLaws.{few-first, few-kinds}
+use Rattle.places.proofs.kind_at.Statement.{statement}
+use Rattle.places.proofs.kind_at.Tie as tie
 
 kinds-in-requires : tie.Need-kinds-in-requires
 kinds-in-requires c κs = search needs

@@ -1,6 +1,6 @@
 use borrow.Author.Needs.{needs}
-use Rattle.book.proofs.places.above.Statement.{statement}
-use Rattle.book.proofs.places.above.Tie as tie
+use Rattle.places.proofs.above.Statement.{statement}
+use Rattle.places.proofs.above.Tie as tie
 
 cast-result : tie.Need-cast-result
 cast-result c = search needs

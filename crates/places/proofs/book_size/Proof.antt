@@ -1,8 +1,8 @@
 use native.Mathlib.Omega.{arith}
 use Rattle.rules.proofs.KindLaws.{few}
 use borrow.Author.Needs.{needs}
-use Rattle.book.proofs.places.book_size.Statement.{statement}
-use Rattle.book.proofs.places.book_size.Tie as tie
+use Rattle.places.proofs.book_size.Statement.{statement}
+use Rattle.places.proofs.book_size.Tie as tie
 
 ladders-in-requires : tie.Need-ladders-in-requires
 ladders-in-requires c κs = search needs

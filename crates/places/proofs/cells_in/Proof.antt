@@ -1,8 +1,8 @@
 use native.Mathlib.Omega.{arith}
 use Rattle.rules.proofs.KindLaws.{few}
 use borrow.Author.Needs.{needs}
-use Rattle.book.proofs.places.ladders_in.Statement.{statement}
-use Rattle.book.proofs.places.ladders_in.Tie as tie
+use Rattle.places.proofs.cells_in.Statement.{statement}
+use Rattle.places.proofs.cells_in.Tie as tie
 
 kinds-in-requires : tie.Need-kinds-in-requires
 kinds-in-requires c κs = search needs
@@ -13,5 +13,5 @@ mul-result c = let f = few (c .before .args .kinds) in omega (arith, f .1, c .ki
 returns : tie.Need-returns
 returns c = search needs
 
-pub ladders-in-spec : {M : Type 1} → statement M
-ladders-in-spec = tie.close (tie.spec kinds-in-requires mul-result returns)
+pub cells-in-spec : {M : Type 1} → statement M
+cells-in-spec = tie.close (tie.spec kinds-in-requires mul-result returns)

@@ -1,8 +1,8 @@
 use native.Mathlib.Omega.{arith}
 use borrow.Author.Needs.{needs}
-use Rattle.book.proofs.LadderLaws.{few-times}
-use Rattle.book.proofs.places.cell_of.Statement.{statement}
-use Rattle.book.proofs.places.cell_of.Tie as tie
+use Rattle.places.proofs.LadderLaws.{few-times}
+use Rattle.places.proofs.cell_of.Statement.{statement}
+use Rattle.places.proofs.cell_of.Tie as tie
 
 above-requires : tie.Need-above-requires
 above-requires c κs = search needs

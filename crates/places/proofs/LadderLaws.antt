@@ -11,8 +11,8 @@ use Rattle.rules.specs.declared.kinds.Kinds.{Kinds}
 use Rattle.rules.specs.declared.kinds.Kinds.the-variants.{One, Three, Four}
 use Rattle.rules.specs.Kinds.{kindsIn, firstKind}
 use Rattle.rules.proofs.KindLaws.{few, first-low}
-use Rattle.book.specs.Places.{ladders, groupLadders, bookSize, groupSize, cells}
-use Rattle.book.specs.Places.{ladderOf, groupAt, kindAt, familyAt, cellOf, HasRow, HasLadder, HasCell}
+use Rattle.places.specs.Places.{ladders, groupLadders, bookSize, groupSize, cells}
+use Rattle.places.specs.Places.{ladderOf, groupAt, kindAt, familyAt, cellOf, HasRow, HasLadder, HasCell}
 
 -- ---- a ladder is that of its group, kind and family
 pub ladder-of : (k : Kinds) (l : ℕ) → ladderOf k (groupAt k l) (kindAt k l) (familyAt l) ≡ l

@@ -5,7 +5,7 @@ use rules::kinds::first_kind;
 use rules::kinds::kinds_in;
 ghost use mathlib.Core.Path.{_≡_};
 ghost use Prim.Native.Nat.{_-_};
-ghost use Rattle.book.specs.Places.{ladders, cells, bookSize, groupAt, kindAt, cellOf};
+ghost use Rattle.places.specs.Places.{ladders, cells, bookSize, groupAt, kindAt, cellOf};
 
 // Buffers of these sizes serve every rulebook: a byte a ladder, counts, a book, a day's findings.
 pub const MOST_LADDERS: usize = 2048 * MOST_KINDS;

@@ -3,9 +3,9 @@ use Prim.Native.Nat.{ℕ, _+_, _*_, _/_}
 use native.Mathlib.Omega.{arith}
 use Rattle.rules.proofs.KindLaws.{few}
 use borrow.Author.Needs.{needs}
-use Rattle.book.proofs.LadderLaws.{few-groups}
-use Rattle.book.proofs.places.group_at.Statement.{statement}
-use Rattle.book.proofs.places.group_at.Tie as tie
+use Rattle.places.proofs.LadderLaws.{few-groups}
+use Rattle.places.proofs.group_at.Statement.{statement}
+use Rattle.places.proofs.group_at.Tie as tie
 
 kinds-in-requires : tie.Need-kinds-in-requires
 kinds-in-requires c κs = search needs

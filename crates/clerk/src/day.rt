@@ -1,6 +1,8 @@
 // One day of the desk, from standard input: opened, its records taken, ended.
 use crate::input::Got;
 use crate::input::fill_from_input;
+use daylog::header::header_of;
+use daylog::record::record_length;
 use desk::end::Ended;
 use desk::state::Answer;
 use desk::state::State;
@@ -13,7 +15,7 @@ ghost use lib.ListN.{length};
 // The type of the end record.
 const END: u8 = 3;
 
-// The bytes read at once: 3,276 whole records, so that none straddles two pieces.
+// The bytes read at once: 3,276 whole records of 20 bytes, so that none straddles two pieces.
 const PIECE: usize = 65520;
 
 // More turns than there are pieces: each takes a record or is the last, and the 1,000,001st record is refused.
@@ -34,12 +36,13 @@ struct Passed {
 }
 
 // Takes the whole records of a piece, up to an end record.
-fn take_rows(start: State, log: &[u8], rows: &[u8], counts: &mut [u32]) -> Passed
+fn take_rows(start: State, log: &[u8], rows: &[u8], size: usize, counts: &mut [u32]) -> Passed
+    requires { ⌜ 1 ≤ size ⌝ }
     ensures { λ r. ⌜ r .at ≤ length (now (rows .entry)) ⌝ }
 {
     let mut state = start;
-    for k in 0..rows.len() / 20 {
-        let at = 20 * k;
+    let mut at = 0;
+    while size <= rows.len() - at {
         if rows[at] == END {
             return Passed {
                 state,
@@ -47,7 +50,7 @@ fn take_rows(start: State, log: &[u8], rows: &[u8], counts: &mut [u32]) -> Passe
                 fault: 0,
             };
         }
-        match desk::take::take(state, log, &rows[at..at + 20], counts) {
+        match desk::take::take(state, log, &rows[at..at + size], counts) {
             Answer::Done(next) => {
                 state = next;
             }
@@ -55,18 +58,19 @@ fn take_rows(start: State, log: &[u8], rows: &[u8], counts: &mut [u32]) -> Passe
                 return Passed { state, at, fault };
             }
         }
+        at = at + size;
     }
     Passed {
         state,
-        at: rows.len() / 20 * 20,
+        at,
         fault: 0,
     }
 }
 
-// Whether anything follows an end record, which has `left` bytes from its own first on in its piece. A piece that is
-// not full is the last; after a read that failed nobody can tell, and the log counts as cut off.
-fn is_followed(left: usize, piece: Got) -> bool {
-    if (left != 20) | piece.failed {
+// Whether anything follows an end record of a size, which has `left` bytes from its own first on in its piece. A
+// piece that is not full is the last; after a read that failed nobody can tell, and the log counts as cut off.
+fn is_followed(size: usize, left: usize, piece: Got) -> bool {
+    if (left != size) | piece.failed {
         return true;
     }
     if piece.count < PIECE {
@@ -78,9 +82,9 @@ fn is_followed(left: usize, piece: Got) -> bool {
 }
 
 // Bytes after the end record are a refusal only where the end itself is accepted.
-fn unless_followed(outcome: Outcome, left: usize, piece: Got) -> Outcome {
+fn unless_followed(outcome: Outcome, size: usize, left: usize, piece: Got) -> Outcome {
     if let Outcome::Ended(_) = outcome {
-        if is_followed(left, piece) {
+        if is_followed(size, left, piece) {
             return Outcome::Refused(LENGTH);
         }
     }
@@ -105,24 +109,27 @@ fn end_day(
 fn take_all(
     start: State,
     log: &[u8],
+    size: usize,
     book: &mut [u8],
     counts: &mut [u32],
     findings: &mut [u8],
-) -> Outcome {
+) -> Outcome
+    requires { ⌜ 1 ≤ size ⌝ }
+{
     let mut piece = [0u8; PIECE];
     let mut state = start;
     for _ in 0..TURNS {
         let got = fill_from_input(&mut piece);
         let count = got.count;
-        let passed = take_rows(state, log, &piece[0..count], counts);
+        let passed = take_rows(state, log, &piece[0..count], size, counts);
         if passed.fault != 0 {
             return Outcome::Refused(passed.fault);
         }
         state = passed.state;
         let at = passed.at;
-        if 20 <= count - at {
-            let outcome = end_day(state, log, &piece[at..at + 20], book, counts, findings);
-            return unless_followed(outcome, count - at, got);
+        if size <= count - at {
+            let outcome = end_day(state, log, &piece[at..at + size], book, counts, findings);
+            return unless_followed(outcome, size, count - at, got);
         }
         if count < PIECE {
             return Outcome::Refused(LENGTH);
@@ -135,7 +142,10 @@ fn take_all(
 pub(crate) fn judge_day(log: &[u8], book: &mut [u8], findings: &mut [u8]) -> Outcome {
     let mut counts = [0u32; MOST_CELLS];
     match desk::open::open(State::Closed, log, book, &mut counts) {
-        Answer::Done(state) => take_all(state, log, book, &mut counts, findings),
+        Answer::Done(state) => {
+            let size = record_length(header_of(log).version);
+            take_all(state, log, size, book, &mut counts, findings)
+        }
         Answer::Refused(number) => Outcome::Refused(number),
     }
 }

@@ -5,19 +5,21 @@ use Prim.Native.Nat.{ℕ, _+_, _*_, _/_, _%_, _<_}
 use native.Mathlib.Numerals.{add-one}
 use native.Mathlib.Omega.{arith}
 use lib.ListN.{getD}
+use Rattle.wire.specs.Choice.{pick}
 use Rattle.wire.specs.Bytes.{le}
 use Rattle.wire.proofs.ByteLaws.{le-two, le-four}
 use Rattle.daylog.specs.Accounts.{accountAt, numberBefore}
-use Rattle.daylog.specs.Contracts.{contractAt, idBefore, contractPlace, foundContract}
+use Rattle.daylog.specs.Contracts.{contractAt, idBefore, contractPlace, foundContract, isFound, placeFound}
 use Rattle.daylog.specs.Way.{accountFrom, contractFrom}
 use Rattle.daylog.specs.declared.contracts.Contract.{Contract}
+use Rattle.daylog.specs.declared.contracts.Found.{Found}
 use Rattle.daylog.specs.declared.contracts.Found.the-variants.{At, Nothing}
 use Rattle.daylog.specs.Entries.{entries}
 use Rattle.wire.proofs.ChoiceLaws.{pick-yes, pick-no}
 use Rattle.wire.proofs.PlaceLaws.{first-at, first-none}
 use borrow.Author.Tests.{eq-eqb, lt-ltb, le-ltb}
-use lib.Dec.{eqb}
-use mathlib.Core.Bool.{false}
+use lib.Dec.{ltb, eqb}
+use mathlib.Core.Bool.{Bool, true, false}
 
 -- the low byte of a number
 low : (b x : ℕ) → b < 256 → (b + 256 * x) % 256 ≡ b
@@ -78,3 +80,17 @@ module _ (s : List ℕ) (id : ℕ) where
   found-nothing none =
       let p : place ≡ entries s = first-none (λ j. eqb (contractAt s j .id) id) (entries s) none in
       pick-no _ _ _ _ (le-ltb place (entries s) (rw p (omega arith))) refl
+
+-- the answer's values: it finds a contract exactly where the table has it, and then at its place
+pub values-found : (s : List ℕ) (id : ℕ) →
+    let place = contractPlace (contractAt s) (entries s) id in
+    (isFound (foundContract s id) ≡ ltb place (entries s)) × (placeFound (foundContract s id) ≡ pick (ltb place (entries s)) place 0)
+unfolding foundContract pick
+values-found s id = go (ltb (contractPlace (contractAt s) (entries s) id) (entries s))
+  where
+    at : Found
+    at = At (contractPlace (contractAt s) (entries s) id) (contractAt s (contractPlace (contractAt s) (entries s) id))
+
+    go : (t : Bool) → (isFound (pick t at Nothing) ≡ t) × (placeFound (pick t at Nothing) ≡ pick t (placeFound at) 0)
+    go true = (refl, refl)
+    go false = (refl, refl)

@@ -1,7 +1,7 @@
 -- 01, "Layouts": "C contract entries of 8 bytes: 0..1 contract id, not zero, strictly rising; 2 type ..; 3 product, 0
 -- to 15; 4..7 largest order in lots, 1 to 1,000,000."
 use Prim.Native.Nat.{ℕ, zero, suc, _+_, _*_}
-use mathlib.Core.Bool.{Bool, _&&_}
+use mathlib.Core.Bool.{Bool, true, false, _&&_}
 use mathlib.Core.List.{List}
 use lib.Dec.{leb, ltb, eqb}
 use lib.ListN.{getD}
@@ -53,3 +53,12 @@ unfoldable pub foundContract : List ℕ → ℕ → Found
 foundContract s id =
     let place = contractPlace (contractAt s) (entries s) id in
     pick (ltb place (entries s)) (At place (contractAt s place)) Nothing
+
+-- its values: whether there is such a contract, and then its place
+abbrev pub isFound : Found → Bool
+isFound (At place e) = true
+isFound Nothing = false
+
+abbrev pub placeFound : Found → ℕ
+placeFound (At place e) = place
+placeFound Nothing = 0

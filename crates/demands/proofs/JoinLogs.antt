@@ -11,7 +11,7 @@ use Rattle.wire.specs.Choice.{pick, orElse}
 use Rattle.wire.proofs.ChoiceLaws.{or-none, or-after}
 use Rattle.daylog.specs.declared.record.Record.{Record}
 use Rattle.daylog.specs.declared.header.Header.{Header}
-use Rattle.daylog.specs.Header.{headerOf, logFault}
+use Rattle.daylog.specs.Header.{logFault}
 use Rattle.daylog.specs.Records.{recordLength, recordOf}
 use Rattle.daylog.specs.Rows.{front, rowSize, rowsOf, isEnd}
 use Rattle.desk.specs.Open.{handedFault}

@@ -10,8 +10,6 @@ use lib.Dec.{leb, eqb, lit<}
 use lib.ListN.{length}
 use Rattle.wire.specs.Choice.{pick, orElse}
 use Rattle.wire.proofs.ChoiceLaws.{pick-yes, pick-no, pick-zero, or-none, and-left, and-right}
-use Rattle.rules.specs.declared.kinds.Kinds.{Kinds}
-use Rattle.rules.specs.Kinds.{mostKinds}
 use Rattle.rules.proofs.KindLaws.{kinds-most}
 use Rattle.book.specs.Shape.{dayShape, rulebookOf}
 use Rattle.places.specs.Places.{cells}
@@ -22,7 +20,6 @@ use Rattle.daylog.specs.declared.header.Header.{Header}
 use Rattle.daylog.specs.declared.record.Record.{Record}
 use Rattle.daylog.specs.Header.{headerOf, logFault}
 use Rattle.daylog.specs.Records.{recordLength, recordOf}
-use Rattle.daylog.specs.Rows.{rowSize}
 use Rattle.daylog.specs.Tables.{tablesOf}
 use Rattle.verdict.specs.Settle.{shortFault}
 use Rattle.desk.specs.Books.{freshFault, askFault}
@@ -45,7 +42,7 @@ use Rattle.demands.proofs.PaperLaws.{refused-leaves, after-open, after-
 use Rattle.demands.proofs.Demand2.{Holds, holds-fresh}
 use Rattle.demands.proofs.JoinTables.{joined-log}
 use Rattle.demands.proofs.JoinCounts.{fault-joined}
-use Rattle.demands.proofs.JoinYears.{Years, years-fresh, rulebook-same, lengths-same, sound-same, book-same, Fitting, years-day}
+use Rattle.demands.proofs.JoinYears.{Years, years-fresh, rulebook-same, lengths-same, sound-same, book-same, years-day}
 
 -- a fresh book begins a new history
 made-history : (rulebook len : ℕ) (h : History) → freshFault len rulebook ≡ 0

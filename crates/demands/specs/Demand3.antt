@@ -9,7 +9,7 @@ use Prim.Native.Nat.{ℕ, _+_, _≤_, _<_}
 use lib.Dec.{leb}
 use lib.ListN.{length}
 use Rattle.rules.specs.declared.kinds.Kinds.{Kinds}
-use Rattle.rules.specs.Kinds.{kindsOf, mostKinds}
+use Rattle.rules.specs.Kinds.{kindsOf}
 use Rattle.rules.specs.Codes.{isRulebook}
 use Rattle.book.specs.Shape.{rulebookOf}
 use Rattle.places.specs.Places.{ladders, ladderOf, groupAt, HasCell, HasLadder}

@@ -6,14 +6,14 @@ use Prim.Native.Nat.{ℕ, zero, suc, _+_, _-_, _*_, _/_, _<_, _≤_}
 use native.Mathlib.Nat.{zero-add, not-suc-le-zero, le-of-suc-le-suc}
 use native.Mathlib.Omega.{arith}
 use borrow.Author.Tests.{lt-ltb}
-use lib.Dec.{ltb, eqb}
+use lib.Dec.{eqb}
 use lib.ListN.{length, getD, take, drop, length-take, length-drop}
 use lib.Seq.{getD-drop}
 use Rattle.wire.specs.Choice.{pick}
 use Rattle.wire.specs.Places.{first}
 use Rattle.wire.specs.Bytes.{le, bytes}
 use Rattle.wire.specs.Buffers.{rows}
-use Rattle.wire.proofs.ChoiceLaws.{pick-yes, pick-no}
+use Rattle.wire.proofs.ChoiceLaws.{pick-yes}
 use Rattle.wire.proofs.PlaceLaws.{first-cong}
 use Rattle.wire.proofs.ByteLaws.{bytes-length, le-bytes, le-cong, le-two}
 use Rattle.wire.proofs.BufferLaws.{ones-at, ones-length, rows-at, rows-length}
@@ -29,7 +29,7 @@ use Rattle.daylog.specs.Entries.{entries}
 use Rattle.daylog.specs.Contracts.{contractAt, contractIn}
 use Rattle.daylog.specs.Accounts.{accountAt, hasMember}
 use Rattle.daylog.specs.Tables.{Tables, tablesIn, tablesOf, memberOn}
-use Rattle.places.specs.Places.{ladders, groupAt, kindAt, familyAt}
+use Rattle.places.specs.Places.{ladders, kindAt, familyAt}
 use Rattle.book.specs.Shape.{dayShape}
 use Rattle.book.specs.Raise.{placeIn}
 use Rattle.verdict.specs.Verdict.{Verdict, verdictIn, foundCount, foundIn}

@@ -1,4 +1,4 @@
--- 01, "Layouts": the counts that are lent, a cell for each group, kind and contract's place (book specs/Places).
+-- 01, "Layouts": the counts that are lent, a cell for each group, kind and contract's place (places specs/Places).
 use Prim.Native.Nat.{ℕ, _+_}
 use mathlib.Core.Bool.{Bool, _&&_, _||_}
 use mathlib.Core.List.{List}

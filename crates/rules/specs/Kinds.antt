@@ -1,5 +1,5 @@
 -- 01, "What the desk judges": "Three offence kinds: 1 self-trade, 2 frequent cancels, 3 large cancels." The one place
--- that says how many kinds a rulebook has; 01 "Layouts" puts ladders and cells by it (book specs/Places).
+-- that says how many kinds a rulebook has; 01 "Layouts" puts ladders and cells by it (places specs/Places).
 use Prim.Native.Nat.{ℕ}
 use Rattle.rules.specs.declared.kinds.Kinds.{Kinds}
 use Rattle.rules.specs.declared.kinds.Kinds.the-variants.{One, Three, Four}

@@ -11,7 +11,6 @@ use Rattle.wire.proofs.ChoiceLaws.{pick-yes, pick-no, flip-no}
 use Rattle.wire.proofs.AnswerLaws.{refused, done}
 use Rattle.wire.proofs.PlaceLaws.{count-le}
 use Rattle.wire.proofs.BufferLaws.{put-in, put-both, length-put, rows-length}
-use Rattle.rules.specs.declared.kinds.Kinds.{Kinds}
 use Rattle.book.specs.declared.shape.Shape.{Shape}
 use Rattle.places.specs.Places.{ladders, bookSize}
 use Rattle.book.specs.Layout.{headOf, bookAs}

@@ -16,7 +16,7 @@ ghost use mathlib.Core.Path.{_≡_};
 ghost use Prim.Native.Nat.{_+_, _*_, _≤_, _<_};
 ghost use lib.ListN.{length};
 ghost use Rattle.wire.specs.Choice.{pick};
-ghost use Rattle.wire.specs.Buffers.{put, rows};
+ghost use Rattle.wire.specs.Buffers.{put};
 ghost use Rattle.places.specs.Places.{ladders};
 ghost use Rattle.verdict.specs.Verdict.{verdictIn, offends, foundCount, finding, foundAt, findings};
 ghost use Rattle.verdict.specs.Way.{sanctionFor};

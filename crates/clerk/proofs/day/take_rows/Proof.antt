@@ -1,21 +1,21 @@
 use mathlib.Core.Path.{_≡_}
-use Prim.Native.Nat.{_-_, _≤_, _/_}
+use Prim.Native.Nat.{_-_, _≤_}
 use lib.ListN.{length}
 use borrow.Author.Needs.{needs}
 use Rattle.clerk.proofs.day.take_rows.Statement.{statement}
 use Rattle.clerk.proofs.day.take_rows.Tie as tie
 
 abbrev Inv-loop : tie.InvT-loop
-Inv-loop log rows counts₀ state₀ k₀ k-end counts state k = (k ≤ length rows / 20) × (length counts ≡ length counts₀)
+Inv-loop log rows size counts₀ state₀ at₀ counts state at = (1 ≤ size) × (at ≤ length rows) × (length counts ≡ length counts₀)
 
 abbrev μ-loop : tie.MeasureT-loop
-μ-loop log rows counts₀ state₀ k₀ k-end counts state k = length rows / 20 - k
+μ-loop log rows size counts₀ state₀ at₀ counts state at = length rows - at
 
 loop-holds : tie.Need-loop-holds Inv-loop μ-loop
 loop-holds c = search needs
 
-mul-at : tie.Need-mul-at Inv-loop μ-loop
-mul-at c = search needs
+sub-loop : tie.Need-sub-loop Inv-loop μ-loop
+sub-loop c = search needs
 
 shared-slice-read-if1 : tie.Need-shared-slice-read-if1 Inv-loop μ-loop
 shared-slice-read-if1 c = search needs
@@ -53,17 +53,14 @@ same-length-2 c = search needs
 returns-2 : tie.Need-returns-2 Inv-loop μ-loop
 returns-2 c = search needs
 
-add-k : tie.Need-add-k Inv-loop μ-loop
-add-k c = search needs
+add-at : tie.Need-add-at Inv-loop μ-loop
+add-at c = search needs
 
 loop-less : tie.Need-loop-less Inv-loop μ-loop
 loop-less c = search needs
 
 loop-again : tie.Need-loop-again Inv-loop μ-loop
 loop-again c = search needs
-
-mul-t24 : tie.Need-mul-t24 Inv-loop μ-loop
-mul-t24 c = search needs
 
 same-length-3 : tie.Need-same-length-3 Inv-loop μ-loop
 same-length-3 c = search needs
@@ -78,7 +75,7 @@ take-rows-spec =
     Inv-loop
     μ-loop
     loop-holds
-    mul-at
+    sub-loop
     shared-slice-read-if1
     same-length
     returns
@@ -91,9 +88,8 @@ take-rows-spec =
     enum-known-fault
     same-length-2
     returns-2
-    add-k
+    add-at
     loop-less
     loop-again
-    mul-t24
     same-length-3
     returns-3)

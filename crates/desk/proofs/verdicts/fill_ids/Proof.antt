@@ -9,7 +9,7 @@ use Rattle.wire.specs.Bytes.{bytes}
 use Prim.Native.Nat.{_-_, _*_, _≤_}
 use lib.ListN.{length}
 use native.Mathlib.Omega.{arith}
-use mathlib.Core.Path.{_≡_, refl, sym, ap, _∙_}
+use mathlib.Core.Path.{_≡_, refl, ap, _∙_}
 use borrow.Author.Needs.{needs}
 use Rattle.desk.proofs.verdicts.fill_ids.Statement.{statement}
 use Rattle.desk.proofs.verdicts.fill_ids.Tie as tie

@@ -13,7 +13,7 @@ use lib.Seq.{getD-append-add}
 use Rattle.wire.specs.Bytes.{le, bytes}
 use Rattle.wire.specs.Buffers.{rows}
 use Rattle.wire.proofs.ChoiceLaws.{pick-le, and-left, and-right}
-use Rattle.wire.proofs.PlaceLaws.{every-all, every-at}
+use Rattle.wire.proofs.BelowLaws.{every-all, every-at}
 use Rattle.wire.proofs.ByteLaws.{bytes-length, le-bytes, le-cong}
 use Rattle.wire.proofs.BufferLaws.{rows-length, rows-at}
 use Rattle.calendar.specs.Dates.{realDay, dayNumber}

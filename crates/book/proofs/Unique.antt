@@ -3,22 +3,14 @@
 use mathlib.Core.Path.{_≡_, sym, _∙_}
 use mathlib.Core.Bool.{Bool}
 use Prim.Native.Nat.{ℕ}
-use Rattle.wire.proofs.AnswerLaws.{one-outcome}
 use Rattle.book.specs.declared.shape.Shape.{Shape}
 use Rattle.book.specs.declared.ask.Asked.{Asked}
-use Rattle.book.specs.declared.fresh.NewBook.{NewBook}
 use Rattle.book.proofs.sound.is_sound_as.Reads as is-sound-as
 use Rattle.book.proofs.sound.rulebook_of.Reads as rulebook-of
 use Rattle.book.proofs.sound.shape_of.Reads as shape-of
 use Rattle.book.proofs.sound.last_date.Reads as last-date
-use Rattle.book.proofs.head.put_head.Reads as put-head
-use Rattle.book.proofs.fresh.fresh_as.Reads as fresh-as
 use Rattle.book.proofs.ask.ask_as.Reads as ask-as
 use Rattle.book.proofs.fits.fits_fault.Reads as fits-fault
-use Rattle.book.proofs.raise.is_later_year.Reads as is-later-year
-use Rattle.book.proofs.raise.next_total.Reads as next-total
-use Rattle.book.proofs.raise.place_in.Reads as place-in
-use Rattle.book.proofs.raise.raise_group.Reads as raise-group
 use Rattle.book.proofs.shape.day_shape.Reads as day-shape
 
 pub is-sound-as-unique : (κs : _) (a : _) (r₁ r₂ : Bool) (s₁ s₂ : _)
@@ -37,14 +29,6 @@ pub last-date-unique : (κs : _) (a : _) (r₁ r₂ : ℕ) (s₁ s₂ : _)
     → last-date.Post κs a r₁ s₁ → last-date.Post κs a r₂ s₂ → r₁ ≡ r₂
 last-date-unique κs a r₁ r₂ s₁ s₂ p q = p ∙ sym q
 
-pub put-head-unique : (κs : _) (a : _) (r₁ r₂ : _) (s₁ s₂ : _)
-    → put-head.Post κs a r₁ s₁ → put-head.Post κs a r₂ s₂ → s₁ .0 .now ≡ s₂ .0 .now
-put-head-unique κs a r₁ r₂ s₁ s₂ p q = p ∙ sym q
-
-pub fresh-as-unique : (κs : _) (a : _) (r₁ r₂ : NewBook) (s₁ s₂ : _)
-    → fresh-as.Post κs a r₁ s₁ → fresh-as.Post κs a r₂ s₂ → (r₁ ≡ r₂) × (s₁ .1 .0 .now ≡ s₂ .1 .0 .now)
-fresh-as-unique κs a r₁ r₂ s₁ s₂ p q = one-outcome p q
-
 pub ask-as-unique : (κs : _) (a : _) (r₁ r₂ : Asked) (s₁ s₂ : _)
     → ask-as.Post κs a r₁ s₁ → ask-as.Post κs a r₂ s₂ → r₁ ≡ r₂
 ask-as-unique κs a r₁ r₂ s₁ s₂ p q = p ∙ sym q
@@ -52,22 +36,6 @@ ask-as-unique κs a r₁ r₂ s₁ s₂ p q = p ∙ sym q
 pub fits-fault-unique : (κs : _) (a : _) (r₁ r₂ : ℕ) (s₁ s₂ : _)
     → fits-fault.Post κs a r₁ s₁ → fits-fault.Post κs a r₂ s₂ → r₁ ≡ r₂
 fits-fault-unique κs a r₁ r₂ s₁ s₂ p q = p ∙ sym q
-
-pub is-later-year-unique : (κs : _) (a : _) (r₁ r₂ : Bool) (s₁ s₂ : _)
-    → is-later-year.Post κs a r₁ s₁ → is-later-year.Post κs a r₂ s₂ → r₁ ≡ r₂
-is-later-year-unique κs a r₁ r₂ s₁ s₂ p q = p ∙ sym q
-
-pub next-total-unique : (κs : _) (a : _) (r₁ r₂ : ℕ) (s₁ s₂ : _)
-    → next-total.Post κs a r₁ s₁ → next-total.Post κs a r₂ s₂ → r₁ ≡ r₂
-next-total-unique κs a r₁ r₂ s₁ s₂ p q = p ∙ sym q
-
-pub place-in-unique : (κs : _) (a : _) (r₁ r₂ : ℕ) (s₁ s₂ : _)
-    → place-in.Post κs a r₁ s₁ → place-in.Post κs a r₂ s₂ → r₁ ≡ r₂
-place-in-unique κs a r₁ r₂ s₁ s₂ p q = p ∙ sym q
-
-pub raise-group-unique : (κs : _) (a : _) (r₁ r₂ : _) (s₁ s₂ : _)
-    → raise-group.Post κs a r₁ s₁ → raise-group.Post κs a r₂ s₂ → s₁ .0 .now ≡ s₂ .0 .now
-raise-group-unique κs a r₁ r₂ s₁ s₂ p q = p ∙ sym q
 
 pub day-shape-unique : (κs : _) (a : _) (r₁ r₂ : Shape) (s₁ s₂ : _)
     → day-shape.Post κs a r₁ s₁ → day-shape.Post κs a r₂ s₂ → r₁ ≡ r₂

@@ -2,6 +2,4 @@ pub mod Shape
 pub mod Layout
 pub mod Sound
 pub mod Fits
-pub mod Fresh
 pub mod Ask
-pub mod Raise

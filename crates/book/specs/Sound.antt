@@ -6,7 +6,7 @@ use mathlib.Core.List.{List}
 use lib.Dec.{leb, eqb}
 use lib.ListN.{length, getD}
 use Rattle.wire.specs.Choice.{pick}
-use Rattle.wire.specs.Places.{every}
+use Rattle.wire.specs.Below.{every}
 use Rattle.wire.specs.Bytes.{le}
 use Rattle.calendar.specs.Dates.{realDay, dayNumber}
 use Rattle.rules.specs.declared.kinds.Kinds.{Kinds}

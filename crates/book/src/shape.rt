@@ -4,7 +4,9 @@ use rules::kinds::kinds_of;
 ghost use mathlib.Core.Path.{_≡_};
 ghost use Rattle.book.specs.Shape.{dayShape};
 
-// A mark is "AX" and a letter.
+// A mark is these two, "AX", and the shape's letter: compared on checking, and written in a head.
+pub const MARK: [u8; 2] = [0x41, 0x58];
+
 pub struct Shape {
     pub letter: u8,
     pub kinds: Kinds,

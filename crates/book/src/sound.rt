@@ -1,5 +1,5 @@
 // Whether a book is sound.
-use crate::head::MARK;
+use crate::shape::MARK;
 use crate::shape::Shape;
 use crate::shape::day_shape;
 use places::book_size;

@@ -8,7 +8,9 @@ use lib.Dec.{eqb}
 use Rattle.wire.proofs.ChoiceLaws.{and-left, and-right, or-left, or-right}
 use Rattle.daylog.specs.declared.header.Header.{Header}
 use Rattle.daylog.specs.Header.{headerOf, logFault}
+use Rattle.daylog.specs.GoodLog.{GoodLog}
 use Rattle.daylog.specs.Changed.{sameHeader, tablesChanged}
+use Rattle.daylog.proofs.FaultLaws.{log-sound}
 
 -- a header is its six fields
 abbrev header : (rulebook version date contracts accounts spare : ℕ) → Header
@@ -63,3 +65,7 @@ unchanged head log e =
       same-header head (headerOf log) (not-false same (or-left (not same) (not clean) e)),
       eqb-true _ _ (not-false clean (or-right (not same) (not clean) e)),
     )
+
+-- so they are the day's, and good
+pub still-good : (head : Header) (log : List ℕ) → tablesChanged head log ≡ false → (head ≡ headerOf log) × GoodLog head log
+still-good head log e = let u = unchanged head log e in (u .0, rw (u .0) (log-sound log (u .1)))

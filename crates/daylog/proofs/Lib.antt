@@ -1,5 +1,4 @@
-pub mod EntryLaws
 pub mod FaultLaws
-pub mod Search
+pub mod LentTables
 pub mod ChangedLaws
 pub mod Unique

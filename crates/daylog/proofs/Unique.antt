@@ -4,17 +4,9 @@ use mathlib.Core.Path.{_≡_, sym, _∙_}
 use mathlib.Core.Bool.{Bool}
 use Prim.Native.Nat.{ℕ}
 use Rattle.rules.specs.declared.text.Text.{Text}
-use Rattle.daylog.specs.declared.contracts.Contract.{Contract}
-use Rattle.daylog.specs.declared.contracts.Found.{Found}
 use Rattle.daylog.specs.declared.header.Header.{Header}
 use Rattle.daylog.specs.declared.record.Record.{Record}
-use Rattle.daylog.proofs.accounts.accounts_good.Reads as accounts-good
-use Rattle.daylog.proofs.accounts.has_member.Reads as has-member
-use Rattle.daylog.proofs.accounts.find_account.Reads as find-account
 use Rattle.daylog.proofs.changed.tables_changed.Reads as tables-changed
-use Rattle.daylog.proofs.contracts.contracts_good.Reads as contracts-good
-use Rattle.daylog.proofs.contracts.contract_at.Reads as contract-at
-use Rattle.daylog.proofs.contracts.find_contract.Reads as find-contract
 use Rattle.daylog.proofs.header.header_of.Reads as header-of
 use Rattle.daylog.proofs.header.text_of.Reads as text-of
 use Rattle.daylog.proofs.header.log_fault.Reads as log-fault
@@ -23,34 +15,9 @@ use Rattle.daylog.proofs.record.record_of.Reads as record-of
 use Rattle.daylog.proofs.record.record_good.Reads as record-good
 use Rattle.daylog.proofs.record.end_good.Reads as end-good
 
-pub accounts-good-unique : (κs : _) (a : _) (r₁ r₂ : Bool) (s₁ s₂ : _)
-    → accounts-good.Post κs a r₁ s₁ → accounts-good.Post κs a r₂ s₂ → r₁ ≡ r₂
-accounts-good-unique κs a r₁ r₂ s₁ s₂ p q = p ∙ sym q
-
-pub has-member-unique : (κs : _) (a : _) (r₁ r₂ : Bool) (s₁ s₂ : _)
-    → has-member.Post κs a r₁ s₁ → has-member.Post κs a r₂ s₂ → r₁ ≡ r₂
-has-member-unique κs a r₁ r₂ s₁ s₂ p q = p ∙ sym q
-
--- the bytes of the part that is handed back: its place in memory is not promised
-pub find-account-unique : (κs : _) (a : _) (r₁ r₂ : _) (s₁ s₂ : _)
-    → find-account.Post κs a r₁ s₁ → find-account.Post κs a r₂ s₂ → r₁ .now ≡ r₂ .now
-find-account-unique κs a r₁ r₂ s₁ s₂ p q = p .0 ∙ sym (q .0)
-
 pub tables-changed-unique : (κs : _) (a : _) (r₁ r₂ : Bool) (s₁ s₂ : _)
     → tables-changed.Post κs a r₁ s₁ → tables-changed.Post κs a r₂ s₂ → r₁ ≡ r₂
 tables-changed-unique κs a r₁ r₂ s₁ s₂ p q = p ∙ sym q
-
-pub contracts-good-unique : (κs : _) (a : _) (r₁ r₂ : Bool) (s₁ s₂ : _)
-    → contracts-good.Post κs a r₁ s₁ → contracts-good.Post κs a r₂ s₂ → r₁ ≡ r₂
-contracts-good-unique κs a r₁ r₂ s₁ s₂ p q = p ∙ sym q
-
-pub contract-at-unique : (κs : _) (a : _) (r₁ r₂ : Contract) (s₁ s₂ : _)
-    → contract-at.Post κs a r₁ s₁ → contract-at.Post κs a r₂ s₂ → r₁ ≡ r₂
-contract-at-unique κs a r₁ r₂ s₁ s₂ p q = p ∙ sym q
-
-pub find-contract-unique : (κs : _) (a : _) (r₁ r₂ : Found) (s₁ s₂ : _)
-    → find-contract.Post κs a r₁ s₁ → find-contract.Post κs a r₂ s₂ → r₁ ≡ r₂
-find-contract-unique κs a r₁ r₂ s₁ s₂ p q = p ∙ sym q
 
 pub header-of-unique : (κs : _) (a : _) (r₁ r₂ : Header) (s₁ s₂ : _)
     → header-of.Post κs a r₁ s₁ → header-of.Post κs a r₂ s₂ → r₁ ≡ r₂

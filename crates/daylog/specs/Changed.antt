@@ -4,6 +4,7 @@ use Prim.Native.Nat.{ℕ}
 use mathlib.Core.Bool.{Bool, _&&_, _||_, not}
 use mathlib.Core.List.{List}
 use lib.Dec.{eqb}
+use Rattle.wire.specs.Choice.{pick}
 use Rattle.daylog.specs.declared.header.Header.{Header}
 use Rattle.daylog.specs.Header.{headerOf, logFault}
 
@@ -14,3 +15,7 @@ sameHeader a b =
 
 unfoldable pub tablesChanged : Header → List ℕ → Bool
 tablesChanged head log = not (sameHeader head (headerOf log)) || not (eqb (logFault log) 0)
+
+-- "19: changed since opening"
+abbrev pub changedFault : Header → List ℕ → ℕ
+changedFault head log = pick (tablesChanged head log) 19 0

@@ -9,8 +9,8 @@ use Rattle.rules.specs.Codes.{isRulebook}
 use Rattle.calendar.specs.Dates.{realDay}
 use Rattle.daylog.specs.declared.header.Header.{Header}
 use Rattle.daylog.specs.Header.{textOf, contractsPart, accountsPart}
-use Rattle.daylog.specs.Contracts.{contractsGood}
-use Rattle.daylog.specs.Accounts.{accountsGood}
+use Rattle.tables.specs.Contracts.{contractsGood}
+use Rattle.tables.specs.Accounts.{accountsGood}
 
 pub record GoodLog (h : Header) (log : List ℕ) : Type 0 where
   pub version : h .version ≡ 1

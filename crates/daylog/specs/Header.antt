@@ -10,8 +10,9 @@ use Rattle.rules.specs.declared.text.Text.{Text}
 use Rattle.rules.specs.Codes.{isRulebook}
 use Rattle.calendar.specs.Dates.{realDay}
 use Rattle.daylog.specs.declared.header.Header.{Header}
-use Rattle.daylog.specs.Contracts.{contractsGood}
-use Rattle.daylog.specs.Accounts.{accountsGood}
+use Rattle.tables.specs.Contracts.{contractsGood}
+use Rattle.tables.specs.Accounts.{accountsGood}
+use Rattle.tables.specs.Tables.{Tables, tablesIn}
 
 -- "0..2 mark 41 58 44 ("AXD")"
 abbrev pub markGood : List ℕ → Bool
@@ -43,6 +44,10 @@ contractsPart h log = take (8 * h .contracts) (drop 16 log)
 
 abbrev pub accountsPart : Header → List ℕ → List ℕ
 accountsPart h log = drop (16 + 8 * h .contracts) log
+
+-- the day's tables
+unfoldable pub tablesOf : List ℕ → Tables
+tablesOf log = tablesIn (textOf (headerOf log)) (contractsPart (headerOf log) log) (accountsPart (headerOf log) log)
 
 -- 1: "not 16+8C+8A"; "7, 8: a contract entry; an account entry"
 unfoldable pub entriesFault : Header → List ℕ → ℕ

@@ -1,10 +1,5 @@
-pub mod Entries
-pub mod Accounts
-pub mod Contracts
 pub mod Records
 pub mod Header
 pub mod GoodLog
 pub mod Rows
-pub mod Way
 pub mod Changed
-pub mod Tables

@@ -1,8 +1,8 @@
 // The header, and opening's checks 1 to 8 in their order.
-use crate::accounts::accounts_good;
-use crate::contracts::contracts_good;
 use rules::text::Text;
 use rules::text::is_rulebook;
+use tables::accounts::accounts_good;
+use tables::contracts::contracts_good;
 use wire::read::get8;
 use wire::read::get16;
 use wire::read::get32;

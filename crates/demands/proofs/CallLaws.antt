@@ -11,9 +11,8 @@ use Rattle.wire.specs.Choice.{pick}
 use Rattle.wire.specs.Outcomes.{answered}
 use Rattle.wire.proofs.ChoiceLaws.{pick-zero, or-none}
 use Rattle.daylog.specs.declared.record.Record.{Record}
-use Rattle.daylog.specs.Header.{headerOf, logFault}
+use Rattle.daylog.specs.Header.{headerOf, logFault, tablesOf}
 use Rattle.daylog.specs.Records.{recordOf}
-use Rattle.daylog.specs.Tables.{tablesOf}
 use Rattle.book.specs.Fits.{bookFault}
 use Rattle.verdict.specs.Verdict.{Verdict, foundCount}
 use Rattle.verdict.specs.Settle.{written}
@@ -22,9 +21,10 @@ use Rattle.desk.specs.declared.state.State.the-variants.{Closed, Open}
 use Rattle.desk.specs.declared.state.Answer.{Answer}
 use Rattle.desk.specs.declared.state.Answer.the-variants.{Done, Refused}
 use Rattle.desk.specs.declared.end.Ended.the-variants.{Done as EndDone, Refused as EndRefused}
-use Rattle.desk.specs.Cells.{raised}
-use Rattle.desk.specs.Counting.{fieldsFault}
-use Rattle.desk.specs.Take.{takeFault, planIn, oneMore}
+use Rattle.counts.specs.Cells.{raised}
+use Rattle.counts.specs.Counting.{fieldsFault}
+use Rattle.counts.specs.Weigh.{planIn}
+use Rattle.desk.specs.Take.{takeFault, oneMore}
 use Rattle.desk.specs.Open.{kindsFor, openFault, handedFault, dayOf, zeroed}
 use Rattle.desk.specs.Abandon.{abandonAnswer}
 use Rattle.desk.specs.End.{endFault}

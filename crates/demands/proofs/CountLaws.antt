@@ -15,9 +15,9 @@ use Rattle.rules.specs.declared.kinds.Kinds.{Kinds}
 use Rattle.rules.proofs.KindLaws.{first-low}
 use Rattle.places.specs.Places.{cells, cellOf, HasCell}
 use Rattle.places.proofs.LadderLaws.{cell-there, cell-test}
-use Rattle.desk.specs.declared.judge.Plan.{Plan}
-use Rattle.desk.specs.Counting.{countsAs}
-use Rattle.desk.specs.Cells.{cellFor, bumped, raisedFor, raised}
+use Rattle.counts.specs.declared.weigh.Plan.{Plan}
+use Rattle.counts.specs.Counting.{countsAs}
+use Rattle.counts.specs.Cells.{cellFor, bumped, raisedFor, raised}
 
 -- one more in a cell, seen at any
 bump-at : (b : Bool) (i j : ℕ) (c : List ℕ) → i < length c → getD (bumped b i c) j 0 ≡ getD c j 0 + pick (b && eqb i j) 1 0

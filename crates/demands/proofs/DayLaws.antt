@@ -12,18 +12,18 @@ use lib.Seq.{drop-at}
 use Rattle.wire.specs.Choice.{pick, orElse}
 use Rattle.wire.specs.Bytes.{bytes}
 use Rattle.wire.proofs.ChoiceLaws.{or-pick, or-assoc, or-after, or-else, pick-no, flip-no}
-use Rattle.wire.proofs.PlaceLaws.{every-all, first-cong}
+use Rattle.wire.proofs.BelowLaws.{every-all, first-cong}
 use Rattle.wire.proofs.BufferLaws.{rows-cong}
 use Rattle.rules.specs.declared.kinds.Kinds.{Kinds}
 use Rattle.rules.specs.Kinds.{kindsOf, kindsIn, firstKind}
 use Rattle.rules.specs.Measure.{times, enough, reached}
 use Rattle.daylog.specs.declared.header.Header.{Header}
 use Rattle.daylog.specs.declared.record.Record.{Record}
-use Rattle.daylog.specs.Header.{headerOf, logFault}
+use Rattle.daylog.specs.Header.{headerOf, logFault, tablesOf}
 use Rattle.daylog.specs.Records.{recordOf}
 use Rattle.daylog.specs.Rows.{rowSize}
-use Rattle.daylog.specs.Tables.{tablesIn, tablesOf}
-use Rattle.daylog.specs.Changed.{sameHeader, tablesChanged}
+use Rattle.tables.specs.Tables.{tablesIn}
+use Rattle.daylog.specs.Changed.{sameHeader, tablesChanged, changedFault}
 use Rattle.places.specs.Places.{ladders, cells, cellOf, groupAt, kindAt, familyAt, HasCell}
 use Rattle.book.specs.Shape.{dayShape}
 use Rattle.book.specs.Layout.{headOf, bookAs, bookOf}
@@ -33,12 +33,13 @@ use Rattle.verdict.specs.Verdict.{foundCount, findings, bookAfter}
 use Rattle.verdict.specs.Settle.{shortFault}
 use Rattle.verdict.proofs.SameVerdict.{Same, same-count, same-findings, same-book}
 use Rattle.desk.specs.declared.state.State.the-variants.{Open}
-use Rattle.desk.specs.Counting.{planOf, countsFor, countsAs, fieldsFault}
-use Rattle.desk.specs.Cells.{cellFor, cellChanged, cellsChanged, raised}
-use Rattle.desk.specs.Take.{callFault, planFault, recordFault, dayFault, takeFault}
+use Rattle.counts.specs.Counting.{planOf, countsFor, countsAs, fieldsFault}
+use Rattle.counts.specs.Cells.{cellFor, cellChanged, cellsChanged, planFault, raised}
+use Rattle.counts.specs.Weigh.{weighFault}
+use Rattle.desk.specs.Take.{sizesFault, heldFault, dayFault, takeFault}
 use Rattle.desk.specs.Open.{kindsFor, zeroed}
 use Rattle.desk.specs.Offences.{kindsOn, familyOf, reachedAt, lowest, lowestOn, verdictOn}
-use Rattle.desk.specs.End.{rowFault, cellsGood, cellsFault, inCells, cellVerdict, countsFault, lentFault, endFault}
+use Rattle.desk.specs.End.{callFault, rowFault, cellsGood, cellsFault, inCells, cellVerdict, countsFault, lentFault, endFault}
 use Rattle.demands.specs.Counts.{howMany, timesOf, timesOn, dayVerdict}
 use Rattle.demands.specs.Paper.{dayIn, takeNumber, endRefusal}
 use Rattle.demands.proofs.CountLaws.{raised-length, raised-past, raised-at}
@@ -182,27 +183,36 @@ module _ (log : List ℕ) (rs : List Record) (c : List ℕ) (a : Agrees log rs c
   abbrev short : List ℕ → Bool
   short row = not (eqb (length row) (rowSize log))
 
+  sizes-is : (row : List ℕ) → sizesFault (dayIn log rs) row (length c) ≡ pick (short row) 1 0
+  unfolding sizesFault tablesOf tablesIn
+  sizes-is row = ap (pick (short row) 1) (sym (pick-no _ _ _ _ (le-ltb (length c) (cells kinds) (a .long)) refl))
+
+  no-change : changedFault (headerOf log) log ≡ 0
+  no-change = sym (pick-no _ _ _ _ tables-stand refl)
+
   call-is : (row : List ℕ) → callFault (dayIn log rs) log row (length c) ≡ pick (short row) 1 0
-  unfolding callFault tablesOf tablesIn
-  call-is row =
-      ap (pick (short row) 1)
-      (sym (pick-no _ _ _ _ (le-ltb (length c) (cells kinds) (a .long)) (pick-no _ _ _ _ tables-stand refl)))
+  unfolding callFault
+  call-is row = ap₂ orElse (sizes-is row) no-change ∙ or-pick (short row) 1 0 (λ e. omega arith)
 
   -- ---- the refusals of take are the rules'
   plan-is : (r : Record) → fieldsFault (tablesOf log) r ≡ 0
-      → planFault (dayIn log rs) (planOf (tablesOf log) r) c ≡ pick (leb 1000000 (length rs)) 14 0
-  unfolding planFault tablesOf tablesIn
+      → planFault kinds (length rs) (planOf (tablesOf log) r) c ≡ pick (leb 1000000 (length rs)) 14 0
+  unfolding planFault
   plan-is r e = ap (pick (leb 1000000 (length rs)) 14) (sym (pick-no _ _ _ _ (cells-stand r e) refl))
 
-  record-is : (r : Record)
-      → recordFault (dayIn log rs) (tablesOf log) r c
-      ≡ orElse (fieldsFault (tablesOf log) r) (pick (leb 1000000 (length rs)) 14 0)
-  unfolding recordFault
-  record-is r = or-after (fieldsFault (tablesOf log) r) _ _ (plan-is r)
+  held-is : (row : List ℕ) → heldFault (dayIn log rs) log row (length c)
+      ≡ orElse (pick (short row) 1 0) (fieldsFault (tablesOf log) (recordOf row))
+  unfolding heldFault weighFault
+  held-is row = ap₂ orElse (sizes-is row) (or-else _ _ no-change)
 
   pub take-is : (row : List ℕ) → takeFault (Open (dayIn log rs)) log row c ≡ takeNumber log rs row
-  unfolding takeFault dayFault takeNumber
-  take-is row = ap₂ orElse (call-is row) (record-is (recordOf row)) ∙ or-pick (short row) 1 _ (λ e. omega arith)
+  unfolding takeFault dayFault takeNumber tablesOf tablesIn
+  take-is row =
+      let fields = fieldsFault (tablesOf log) (recordOf row) in
+      let full = planFault kinds (length rs) (planOf (tablesOf log) (recordOf row)) c in
+      ap (λ (n : ℕ). orElse n full) (held-is row) ∙ or-assoc (pick (short row) 1 0) fields full
+      ∙ ap (orElse (pick (short row) 1 0)) (or-after fields _ _ (plan-is (recordOf row)))
+      ∙ or-pick (short row) 1 _ (λ e. omega arith)
 
   -- ---- the times in the cells are those of the records
   times-are : (ladder place : ℕ) → ladder < ladders kinds → place < tablesOf log .contracts

@@ -8,7 +8,7 @@ use Rattle.wire.specs.Choice.{pick}
 use Rattle.wire.specs.Outcomes.{answered}
 use Rattle.wire.proofs.ChoiceLaws.{pick-no}
 use Rattle.wire.proofs.AnswerLaws.{answer-done, answer-number, one-outcome}
-use Rattle.book.specs.Fresh.{freshNumber}
+use Rattle.posting.specs.Fresh.{freshNumber}
 use Rattle.book.specs.Ask.{askNumber, askAnswerAs, askedTotal, askedRung}
 use Rattle.desk.specs.Answers.{numberOf}
 use Rattle.desk.specs.Abandon.{abandonAnswer}

@@ -18,11 +18,10 @@ use Rattle.places.specs.Places.{ladders}
 use Rattle.book.specs.Shape.{dayShape, rulebookOf}
 use Rattle.book.specs.Sound.{sound}
 use Rattle.book.specs.Fits.{bookFault}
-use Rattle.book.proofs.FreshLaws.{made}
+use Rattle.posting.proofs.FreshLaws.{made}
 use Rattle.daylog.specs.declared.record.Record.{Record}
-use Rattle.daylog.specs.Header.{headerOf, logFault}
+use Rattle.daylog.specs.Header.{headerOf, logFault, tablesOf}
 use Rattle.daylog.specs.Rows.{front, rowsOf}
-use Rattle.daylog.specs.Tables.{tablesOf}
 use Rattle.verdict.specs.Verdict.{foundAt, findings}
 use Rattle.desk.specs.Books.{freshFault}
 use Rattle.desk.specs.Open.{handedFault}

@@ -10,7 +10,7 @@ use Rattle.rules.specs.Kinds.{kindsOf, kindsIn, firstKind}
 use Rattle.rules.proofs.KindLaws.{kinds-begin}
 use Rattle.places.specs.Places.{HasCell}
 use Rattle.book.specs.Sound.{sound}
-use Rattle.daylog.specs.Tables.{tablesOf}
+use Rattle.daylog.specs.Header.{tablesOf}
 use Rattle.desk.specs.Offences.{kindsOn}
 use Rattle.demands.specs.Counts.{timesOf}
 use Rattle.demands.specs.Days.{PastDay, blank}

@@ -4,7 +4,7 @@ use mathlib.Core.Bool.{Bool, true, false}
 use native.Mathlib.Omega.{arith}
 use lib.Dec.{eqb}
 use Rattle.wire.specs.Choice.{pick}
-use Rattle.wire.specs.Places.{every, some, first}
+use Rattle.wire.specs.Below.{every, some, first}
 use Rattle.wire.specs.Bytes.{le, bytes}
 use Rattle.rules.specs.Choices.{byThree}
 use Rattle.rules.specs.Exemption.{known, exempt}
@@ -12,10 +12,10 @@ use Rattle.rules.specs.Measure.{enough}
 use Rattle.rules.specs.Ladders.{family, rung, sanction}
 use Rattle.rules.specs.Kinds.{kindsOf, kindsIn, firstKind}
 use Rattle.book.specs.Layout.{headOf, bookAs}
-use Rattle.daylog.specs.Accounts.{accountPlace, hasMember}
-use Rattle.daylog.specs.Contracts.{contractPlace}
-use Rattle.daylog.specs.Tables.{accountOf, contractOf, hasAccount, groupOf, memberOn}
-use Rattle.desk.specs.Counting.{planFor, planOf, countsAs, countsFor}
+use Rattle.tables.specs.Accounts.{accountPlace, hasMember}
+use Rattle.tables.specs.Contracts.{contractPlace}
+use Rattle.tables.specs.Tables.{accountOf, contractOf, hasAccount, groupOf, memberOn}
+use Rattle.counts.specs.Counting.{planFor, planOf, countsAs, countsFor}
 use Rattle.desk.specs.Offences.{familyOf}
 use Rattle.demands.specs.Counts.{howMany, timesOf, reachesOn, offence}
 use Rattle.demands.specs.Days.{offenceOn, offenceDays, carried, totalOver, blank}

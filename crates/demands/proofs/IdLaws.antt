@@ -10,14 +10,14 @@ use borrow.Author.Tests.{ltb-true}
 use lib.Dec.{leb, ltb}
 use Rattle.wire.specs.Choice.{within}
 use Rattle.wire.proofs.ChoiceLaws.{and-left}
-use Rattle.wire.proofs.PlaceLaws.{every-at, first-below}
+use Rattle.wire.proofs.BelowLaws.{every-at, first-below}
 use Rattle.rules.specs.declared.text.Text.{Text}
 use Rattle.rules.specs.Codes.{hasType}
-use Rattle.daylog.specs.declared.contracts.Contract.{Contract}
-use Rattle.daylog.specs.Contracts.{contractAt, idBefore, contractGood, contractGoodAt, contractsGood}
-use Rattle.daylog.specs.Entries.{entries}
-use Rattle.daylog.specs.Header.{headerOf, textOf, contractsPart, logFault}
-use Rattle.daylog.specs.Tables.{tablesIn, tablesOf}
+use Rattle.tables.specs.declared.contracts.Contract.{Contract}
+use Rattle.tables.specs.Contracts.{contractAt, idBefore, contractGood, contractGoodAt, contractsGood}
+use Rattle.tables.specs.Entries.{entries}
+use Rattle.daylog.specs.Header.{headerOf, textOf, contractsPart, logFault, tablesOf}
+use Rattle.tables.specs.Tables.{tablesIn}
 use Rattle.daylog.proofs.FaultLaws.{log-sound}
 use Rattle.desk.specs.Offences.{lowestOn}
 use Rattle.demands.specs.Counts.{timesOn, reachesAt}

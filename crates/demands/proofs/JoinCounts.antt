@@ -8,19 +8,19 @@ use native.Mathlib.Omega.{arith}
 use borrow.Author.Tests.{eqb-true, eqb-false, eq-eqb, ne-eqb, leb-true, le-leb, lt-leb}
 use lib.Dec.{leb, ltb, eqb}
 use Rattle.wire.specs.Choice.{pick}
-use Rattle.wire.specs.Places.{some, first}
+use Rattle.wire.specs.Below.{some, first}
 use Rattle.wire.proofs.ChoiceLaws.{pick-yes, pick-no, and-left, and-right, and-yes, and-no, and-no-right, same-test}
-use Rattle.wire.proofs.PlaceLaws.{some-cong, some-none, some-more, first-cong}
+use Rattle.wire.proofs.BelowLaws.{some-cong, some-none, some-more, first-cong}
 use Rattle.rules.specs.declared.measure.Times.{Times}
 use Rattle.rules.specs.declared.text.Text.{Text}
 use Rattle.rules.specs.Measure.{times, enough, reached}
-use Rattle.daylog.specs.declared.contracts.Contract.{Contract}
+use Rattle.tables.specs.declared.contracts.Contract.{Contract}
 use Rattle.daylog.specs.declared.record.Record.{Record}
-use Rattle.daylog.specs.Accounts.{accountPlace, hasMember}
-use Rattle.daylog.specs.Contracts.{contractPlace}
-use Rattle.daylog.specs.Tables.{Tables, accountOf, contractOf, hasAccount, hasContract, groupOf, memberOn}
-use Rattle.desk.specs.declared.judge.Plan.{Plan}
-use Rattle.desk.specs.Counting.{exempt1, exempt2, planFor, planOf, countsAs, countsFor, fieldsFault}
+use Rattle.tables.specs.Accounts.{accountPlace, hasMember}
+use Rattle.tables.specs.Contracts.{contractPlace}
+use Rattle.tables.specs.Tables.{Tables, accountOf, contractOf, hasAccount, hasContract, groupOf, memberOn}
+use Rattle.counts.specs.declared.weigh.Plan.{Plan}
+use Rattle.counts.specs.Counting.{exempt1, exempt2, planFor, planOf, countsAs, countsFor, fieldsFault}
 use Rattle.desk.specs.Offences.{familyOf}
 use Rattle.demands.specs.Counts.{timesOf, reachesOn, offence}
 use Rattle.demands.specs.Join.{joined, Joined, betweenFor, between}

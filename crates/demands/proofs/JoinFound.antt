@@ -5,9 +5,9 @@ use mathlib.Core.List.{List, []}
 use Prim.Native.Nat.{ℕ, _≤_}
 use lib.Dec.{eqb, ltb}
 use Rattle.wire.specs.Choice.{pick}
-use Rattle.wire.specs.Places.{first}
+use Rattle.wire.specs.Below.{first}
 use Rattle.wire.proofs.ChoiceLaws.{pick-no}
-use Rattle.wire.proofs.PlaceLaws.{first-cong}
+use Rattle.wire.proofs.BelowLaws.{first-cong}
 use Rattle.calendar.specs.Dates.{year}
 use Rattle.rules.specs.declared.text.Text.{Text}
 use Rattle.rules.specs.Kinds.{kindsOf}
@@ -17,9 +17,9 @@ use Rattle.book.specs.declared.shape.Shape.{Shape}
 use Rattle.book.specs.Shape.{dayShape}
 use Rattle.places.specs.Places.{groupAt, kindAt, familyAt}
 use Rattle.book.specs.Layout.{lastDate, totalAt}
-use Rattle.book.specs.Raise.{laterYear, nextTotal}
+use Rattle.posting.specs.Raise.{laterYear, nextTotal}
 use Rattle.daylog.specs.declared.record.Record.{Record}
-use Rattle.daylog.specs.Tables.{Tables, memberOn}
+use Rattle.tables.specs.Tables.{Tables, memberOn}
 use Rattle.verdict.specs.Verdict.{Verdict, offends, finding, totalAfter, sanctionAt, foundAt}
 use Rattle.desk.specs.Offences.{kindsOn, familyOf, reachedAt, lowest, lowestOn, verdictOn}
 use Rattle.demands.specs.Counts.{timesOf, timesOn, offence, dayVerdict}

@@ -18,9 +18,8 @@ use Rattle.book.specs.Sound.{sound}
 use Rattle.book.specs.Fits.{bookFault}
 use Rattle.daylog.specs.declared.header.Header.{Header}
 use Rattle.daylog.specs.declared.record.Record.{Record}
-use Rattle.daylog.specs.Header.{headerOf, logFault}
+use Rattle.daylog.specs.Header.{headerOf, logFault, tablesOf}
 use Rattle.daylog.specs.Records.{recordLength, recordOf}
-use Rattle.daylog.specs.Tables.{tablesOf}
 use Rattle.verdict.specs.Settle.{shortFault}
 use Rattle.desk.specs.Books.{freshFault, askFault}
 use Rattle.desk.specs.Open.{kindsFor, fewFault, handedFault}

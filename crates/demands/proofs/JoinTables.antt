@@ -12,13 +12,14 @@ use lib.ListN.{length, getD, take, drop, length-take, length-drop, List·getD-eq
 use lib.Seq.{getD-take, getD-drop, ext-getD}
 use Rattle.wire.specs.Choice.{pick, within}
 use Rattle.wire.proofs.ChoiceLaws.{pick-yes, pick-no, pick-same, and-yes, and-no, and-no-right}
-use Rattle.wire.proofs.PlaceLaws.{every-cong}
+use Rattle.wire.proofs.BelowLaws.{every-cong}
 use Rattle.wire.proofs.ByteLaws.{le-cong}
-use Rattle.daylog.specs.Accounts.{accountAt, numberBefore, accountGoodAt, accountsGood}
-use Rattle.daylog.specs.Contracts.{contractAt}
-use Rattle.daylog.specs.Entries.{entries}
+use Rattle.tables.specs.Accounts.{accountAt, numberBefore, accountGoodAt, accountsGood}
+use Rattle.tables.specs.Contracts.{contractAt}
+use Rattle.tables.specs.Entries.{entries}
 use Rattle.daylog.specs.Header.{headerOf, markGood, contractsPart, accountsPart, entriesFault, headFault, logFault}
-use Rattle.daylog.specs.Tables.{tablesIn, tablesOf}
+use Rattle.daylog.specs.Header.{tablesOf}
+use Rattle.tables.specs.Tables.{tablesIn}
 use Rattle.daylog.proofs.FaultLaws.{log-sound}
 use Rattle.demands.specs.Join.{joined, accountsTo, groupByte, byPlace, joinLog, Joined}
 

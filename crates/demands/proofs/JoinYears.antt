@@ -23,8 +23,8 @@ use Rattle.book.proofs.BookLaws.{sound-facts}
 use Rattle.places.proofs.LadderLaws.{ladder-there, group-of, kind-of, family-of}
 use Rattle.daylog.specs.declared.header.Header.{Header}
 use Rattle.daylog.specs.declared.record.Record.{Record}
-use Rattle.daylog.specs.Header.{headerOf, logFault}
-use Rattle.daylog.specs.Tables.{Tables, tablesOf}
+use Rattle.daylog.specs.Header.{headerOf, logFault, tablesOf}
+use Rattle.tables.specs.Tables.{Tables}
 use Rattle.verdict.specs.Verdict.{foundAt, bookAfter}
 use Rattle.desk.specs.Offences.{kindsOn}
 use Rattle.demands.specs.Counts.{howMany, timesOf, offence, dayVerdict}

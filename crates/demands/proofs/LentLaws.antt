@@ -14,8 +14,9 @@ use Rattle.daylog.specs.declared.record.Record.{Record}
 use Rattle.daylog.specs.Header.{headerOf}
 use Rattle.daylog.specs.Records.{recordOf}
 use Rattle.places.specs.Places.{cells}
-use Rattle.desk.specs.Cells.{raised}
-use Rattle.desk.specs.Take.{takeFault, planIn}
+use Rattle.counts.specs.Cells.{raised}
+use Rattle.counts.specs.Weigh.{planIn}
+use Rattle.desk.specs.Take.{takeFault}
 use Rattle.desk.specs.Open.{kindsFor, openFault, handedFault, zeroed}
 use Rattle.desk.proofs.HandedLaws.{room-there}
 use Rattle.demands.specs.Calls.{Step, Desk, Given, Gives, fresh-gives, open-gives, take-gives, end-gives, abandon-gives, ask-gives, lend-gives, Ran, none, next, left}

@@ -9,18 +9,18 @@ use borrow.Author.Tests.{ltb-true}
 use lib.Dec.{ltb}
 use lib.ListN.{length, getD, take, drop}
 use Rattle.wire.specs.Choice.{pick}
-use Rattle.wire.specs.Places.{count, first}
+use Rattle.wire.specs.Below.{count, first}
 use Rattle.wire.specs.Bytes.{bytes}
 use Rattle.wire.specs.Buffers.{rows}
 use Rattle.wire.proofs.KeptLaws.{part-at, kept-length, kept-at}
-use Rattle.wire.proofs.PlaceLaws.{count-le, first-below, first-some, Passes, Passed, count-below, count-rises, passed, first-passes}
+use Rattle.wire.proofs.BelowLaws.{count-le, first-below, first-some, Passes, Passed, count-below, count-rises, passed, first-passes}
 use Rattle.rules.specs.declared.kinds.Kinds.{Kinds}
 use Rattle.rules.proofs.KindLaws.{kinds-most}
 use Rattle.places.specs.Places.{ladders, groupAt, kindAt, familyAt}
 use Rattle.book.specs.Shape.{dayShape}
 use Rattle.places.proofs.LadderLaws.{ladder-of}
 use Rattle.daylog.specs.declared.record.Record.{Record}
-use Rattle.daylog.specs.Tables.{Tables}
+use Rattle.tables.specs.Tables.{Tables}
 use Rattle.verdict.specs.Verdict.{offends, foundCount, finding, sanctionAt, foundAt, findings}
 use Rattle.desk.specs.Offences.{kindsOn, reachedAt, lowest, lowestOn, verdictOn}
 use Rattle.demands.specs.Counts.{timesOn, reachesOn, offence, reachesAt, offenceAt, dayVerdict}

@@ -11,10 +11,9 @@ use Rattle.wire.specs.Choice.{pick, orElse}
 use Rattle.wire.specs.Buffers.{put}
 use Rattle.wire.proofs.ChoiceLaws.{pick-yes, pick-no, or-else, or-first, flip-yes, flip-no}
 use Rattle.daylog.specs.declared.record.Record.{Record}
-use Rattle.daylog.specs.Header.{headerOf}
+use Rattle.daylog.specs.Header.{headerOf, tablesOf}
 use Rattle.daylog.specs.Records.{recordOf}
 use Rattle.daylog.specs.Rows.{front, rowSize, rowsOf, isEnd}
-use Rattle.daylog.specs.Tables.{tablesOf}
 use Rattle.book.specs.Fits.{bookFault}
 use Rattle.verdict.specs.Verdict.{findings, bookAfter}
 use Rattle.verdict.specs.Settle.{shortFault}

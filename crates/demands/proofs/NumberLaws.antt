@@ -11,18 +11,18 @@ use Rattle.wire.proofs.ChoiceLaws.{pick-not, or-not, pick-le, pick-no, flip-no}
 use Rattle.wire.proofs.AnswerLaws.{answer-number}
 use Rattle.rules.specs.declared.kinds.Kinds.{Kinds}
 use Rattle.rules.specs.Kinds.{kindsOf}
-use Rattle.book.specs.declared.fresh.NewBook.the-variants.{Made, Refused as NotMade}
+use Rattle.posting.specs.declared.fresh.NewBook.the-variants.{Made, Refused as NotMade}
 use Rattle.places.specs.Places.{bookSize}
 use Rattle.book.specs.Shape.{dayShape, rulebookOf, shapeOf}
-use Rattle.book.specs.Fresh.{freshNumber, freshFaultAs}
+use Rattle.posting.specs.Fresh.{freshNumber, freshFaultAs}
 use Rattle.book.specs.Ask.{askNumber, askFaultAs, askAnswerAs}
 use Rattle.book.specs.Fits.{fitsFault, bookFault}
 use Rattle.book.specs.Sound.{sound}
 use Rattle.book.proofs.BookLaws.{sound-facts, day-kinds}
 use Rattle.daylog.specs.declared.record.Record.{Record}
-use Rattle.daylog.specs.Header.{headerOf, logFault, headFault, entriesFault}
+use Rattle.daylog.specs.Header.{headerOf, logFault, headFault, entriesFault, tablesOf}
 use Rattle.daylog.specs.Records.{recordOf}
-use Rattle.daylog.specs.Tables.{Tables, tablesOf}
+use Rattle.tables.specs.Tables.{Tables}
 use Rattle.verdict.specs.Verdict.{Verdict}
 use Rattle.verdict.specs.Settle.{shortFault}
 use Rattle.desk.specs.declared.state.Day.{Day}
@@ -31,7 +31,7 @@ use Rattle.desk.specs.declared.state.State.the-variants.{Closed}
 use Rattle.desk.specs.declared.end.Ended.the-variants.{Done, Refused}
 use Rattle.desk.specs.Answers.{numberOf}
 use Rattle.desk.specs.Books.{freshFault, askFault, askAnswer}
-use Rattle.desk.specs.Counting.{fieldsFault}
+use Rattle.counts.specs.Counting.{fieldsFault}
 use Rattle.desk.specs.Open.{fewFault, handedFault}
 use Rattle.desk.specs.End.{endNumber, rowFault}
 use Rattle.demands.specs.Calls.{Step, makeBook, openDay, takeRecord, endDay, abandonDay, askBook, lendFindings, numberIn}

@@ -13,9 +13,9 @@ use Rattle.wire.specs.Buffers.{put}
 use Rattle.wire.proofs.ChoiceLaws.{pick-yes, pick-no}
 use Rattle.wire.proofs.BufferLaws.{length-put}
 use Rattle.daylog.specs.declared.record.Record.{Record}
-use Rattle.daylog.specs.Header.{headerOf}
+use Rattle.daylog.specs.Header.{headerOf, tablesOf}
 use Rattle.daylog.specs.Records.{recordOf}
-use Rattle.daylog.specs.Tables.{Tables, tablesOf}
+use Rattle.tables.specs.Tables.{Tables}
 use Rattle.verdict.specs.Verdict.{findings, bookAfter}
 use Rattle.desk.specs.Books.{freshFault}
 use Rattle.desk.specs.Open.{handedFault}

@@ -9,7 +9,7 @@ use borrow.Author.Tests.{eq-eqb, eqb-true, eqb-false}
 use lib.Dec.{leb, eqb, eqb·suc-zero}
 use Rattle.wire.specs.Choice.{pick}
 use Rattle.wire.proofs.ChoiceLaws.{pick-no, pick-same, and-no, and-no-right, flip-no}
-use Rattle.wire.proofs.PlaceLaws.{some-none}
+use Rattle.wire.proofs.BelowLaws.{some-none}
 use Rattle.calendar.specs.Dates.{year}
 use Rattle.rules.specs.declared.text.Text.{Text}
 use Rattle.rules.specs.Choices.{byThree}
@@ -18,7 +18,7 @@ use Rattle.rules.specs.Measure.{enough}
 use Rattle.rules.specs.Ladders.{rung, sanction}
 use Rattle.places.specs.Places.{groupAt, kindAt}
 use Rattle.daylog.specs.declared.record.Record.{Record}
-use Rattle.daylog.specs.Tables.{Tables, memberOn}
+use Rattle.tables.specs.Tables.{Tables, memberOn}
 use Rattle.desk.specs.Offences.{kindsOn, familyOf}
 use Rattle.demands.specs.Counts.{howMany, reachesOn, offence}
 use Rattle.demands.specs.Days.{PastDay, offenceOn, offenceDays, carried, totalOver}

@@ -18,8 +18,7 @@ use Rattle.book.specs.Layout.{lastDate}
 use Rattle.book.specs.Sound.{sound}
 use Rattle.book.specs.Fits.{fitsFault, bookFault}
 use Rattle.daylog.specs.declared.record.Record.{Record}
-use Rattle.daylog.specs.Header.{headerOf, logFault}
-use Rattle.daylog.specs.Tables.{tablesOf}
+use Rattle.daylog.specs.Header.{headerOf, logFault, tablesOf}
 use Rattle.verdict.specs.Verdict.{findings, bookAfter, foundCount}
 use Rattle.desk.specs.Open.{fewFault, handedFault}
 use Rattle.demands.specs.Counts.{dayVerdict}

@@ -7,17 +7,17 @@ use Prim.Native.Nat.{ℕ, zero, suc}
 use native.Mathlib.Omega.{arith}
 use lib.ListN.{take, drop}
 use Rattle.wire.specs.Choice.{pick}
-use Rattle.wire.specs.Places.{every, some, first}
+use Rattle.wire.specs.Below.{every, some, first}
 use Rattle.calendar.specs.Dates.{realDay, monthDays, daysIn, dayNumber}
 use Rattle.rules.specs.Choices.{byThree}
 use Rattle.rules.specs.Exemption.{known, exempt}
 use Rattle.rules.specs.Measure.{enough}
 use Rattle.rules.specs.Ladders.{family, rung}
 use Rattle.rules.specs.Kinds.{kindsOf, kindsIn, firstKind}
-use Rattle.daylog.specs.Accounts.{accountPlace}
-use Rattle.daylog.specs.Contracts.{contractPlace}
-use Rattle.daylog.specs.Tables.{accountOf, contractOf, hasAccount, groupOf}
-use Rattle.desk.specs.Counting.{planFor, planOf, countsAs, countsFor}
+use Rattle.tables.specs.Accounts.{accountPlace}
+use Rattle.tables.specs.Contracts.{contractPlace}
+use Rattle.tables.specs.Tables.{accountOf, contractOf, hasAccount, groupOf}
+use Rattle.counts.specs.Counting.{planFor, planOf, countsAs, countsFor}
 use Rattle.desk.specs.Offences.{familyOf}
 use Rattle.demands.specs.Counts.{howMany, timesOf, reachesOn, offence}
 use Rattle.demands.specs.Starred.{dayWith, trade, cancel, selfTrades, cancels, cancelsOnTwo, largeCancels}

@@ -9,19 +9,19 @@ use lib.Dec.{ltb, eqb, lit<}
 use lib.ListN.{drop, length-take}
 use Rattle.wire.specs.Choice.{within}
 use Rattle.wire.proofs.ChoiceLaws.{pick-yes, pick-zero, and-left, and-right, and-no-right, bounds}
-use Rattle.wire.proofs.PlaceLaws.{every-at}
+use Rattle.wire.proofs.BelowLaws.{every-at}
 use Rattle.rules.specs.declared.kinds.Kinds.{Kinds}
 use Rattle.rules.specs.declared.kinds.Kinds.the-variants.{One, Three, Four}
 use Rattle.rules.specs.Kinds.{kindsIn, firstKind}
 use Rattle.rules.proofs.KindLaws.{kinds-begin}
 use Rattle.daylog.specs.declared.record.Record.{Record}
-use Rattle.daylog.specs.Accounts.{accountAt, numberBefore, accountGoodAt, accountsGood}
-use Rattle.daylog.specs.Header.{headerOf, accountsPart, logFault}
-use Rattle.daylog.specs.Entries.{entries}
-use Rattle.daylog.specs.Tables.{Tables, tablesIn, tablesOf, accountOf, contractOf, hasAccount, hasContract, groupOf}
+use Rattle.tables.specs.Accounts.{accountAt, numberBefore, accountGoodAt, accountsGood}
+use Rattle.daylog.specs.Header.{headerOf, accountsPart, logFault, tablesOf}
+use Rattle.tables.specs.Entries.{entries}
+use Rattle.tables.specs.Tables.{Tables, tablesIn, accountOf, contractOf, hasAccount, hasContract, groupOf}
 use Rattle.daylog.proofs.FaultLaws.{log-sound}
 use Rattle.places.specs.Places.{HasCell}
-use Rattle.desk.specs.Counting.{planFor, planOf, countsFor, countsAs, fieldsFault}
+use Rattle.counts.specs.Counting.{planFor, planOf, countsFor, countsAs, fieldsFault}
 use Rattle.desk.specs.Offences.{kindsOn}
 
 pub record Known (t : Tables) : Type 0 where

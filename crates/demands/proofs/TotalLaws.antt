@@ -19,14 +19,14 @@ use Rattle.book.specs.declared.shape.Shape.{Shape}
 use Rattle.places.specs.Places.{ladders, groupAt, kindAt}
 use Rattle.book.specs.Shape.{dayShape, rulebookOf, shapeOf}
 use Rattle.book.specs.Layout.{lastDate, totalAt}
-use Rattle.book.specs.Raise.{laterYear}
+use Rattle.posting.specs.Raise.{laterYear}
 use Rattle.book.specs.Sound.{sound}
 use Rattle.book.specs.Fits.{bookFault}
 use Rattle.book.proofs.BookLaws.{SoundBook, fresh-sound, rulebook-of-book, date-of-book, total-of-book}
 use Rattle.book.proofs.FitsLaws.{fits}
 use Rattle.daylog.specs.declared.record.Record.{Record}
-use Rattle.daylog.specs.Header.{headerOf, logFault}
-use Rattle.daylog.specs.Tables.{Tables, tablesOf, memberOn}
+use Rattle.daylog.specs.Header.{headerOf, logFault, tablesOf}
+use Rattle.tables.specs.Tables.{Tables, memberOn}
 use Rattle.daylog.proofs.FaultLaws.{log-sound}
 use Rattle.verdict.specs.Verdict.{offends, finding, totalAfter, sanctionAt, foundAt, bookAfter}
 use Rattle.desk.specs.Offences.{kindsOn, verdictOn}

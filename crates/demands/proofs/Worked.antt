@@ -9,12 +9,12 @@ use lib.Dec.{eqb, ltb}
 use lib.ListN.{length, replicate, length-replicate}
 use Rattle.wire.specs.Choice.{pick, orElse}
 use Rattle.wire.specs.Outcomes.{answered}
-use Rattle.wire.specs.Places.{every, some, count, first}
+use Rattle.wire.specs.Below.{every, some, count, first}
 use Rattle.wire.specs.Bytes.{le, bytes}
 use Rattle.wire.specs.Buffers.{put, rows}
 use Rattle.wire.proofs.ChoiceLaws.{pick-yes, pick-no, flip-no, or-else}
 use Rattle.wire.proofs.AnswerLaws.{answer-refused}
-use Rattle.wire.proofs.PlaceLaws.{every-at, count-cong}
+use Rattle.wire.proofs.BelowLaws.{every-at, count-cong}
 use Rattle.wire.proofs.BufferLaws.{rows-cong, put-whole}
 use Rattle.calendar.specs.Dates.{realDay, monthDays, daysIn, dayNumber}
 use Rattle.rules.specs.Choices.{byThree}
@@ -28,21 +28,21 @@ use Rattle.book.specs.Shape.{dayShape}
 use Rattle.book.specs.Layout.{bookAs}
 use Rattle.book.specs.Sound.{soundAs, sound}
 use Rattle.book.specs.Fits.{fitsFault, bookFault}
-use Rattle.book.specs.Fresh.{freshFaultAs}
+use Rattle.posting.specs.Fresh.{freshFaultAs}
 use Rattle.book.specs.Ask.{askFaultAs, askAnswerAs}
-use Rattle.book.specs.Raise.{nextTotal}
+use Rattle.posting.specs.Raise.{nextTotal}
 use Rattle.daylog.specs.declared.record.Record.{Record}
-use Rattle.daylog.specs.Contracts.{contractAt, idBefore, contractsGood, contractPlace}
-use Rattle.daylog.specs.Accounts.{accountAt, numberBefore, accountsGood, accountPlace, hasMember}
-use Rattle.daylog.specs.Header.{headerOf, entriesFault, headFault, logFault}
+use Rattle.tables.specs.Contracts.{contractAt, idBefore, contractsGood, contractPlace}
+use Rattle.tables.specs.Accounts.{accountAt, numberBefore, accountsGood, accountPlace, hasMember}
+use Rattle.daylog.specs.Header.{headerOf, entriesFault, headFault, logFault, tablesOf}
 use Rattle.daylog.specs.Records.{recordLength, recordOf, recordGood, endGood}
 use Rattle.daylog.specs.Rows.{rowSize}
-use Rattle.daylog.specs.Tables.{Tables, tablesIn, tablesOf, accountOf, contractOf, hasAccount, hasContract, groupOf}
-use Rattle.daylog.specs.Tables.{memberOn}
+use Rattle.tables.specs.Tables.{Tables, tablesIn, accountOf, contractOf, hasAccount, hasContract, groupOf}
+use Rattle.tables.specs.Tables.{memberOn}
 use Rattle.verdict.specs.Verdict.{Verdict, offends, foundCount, finding, totalAfter, sanctionAt, foundAt, findings}
 use Rattle.verdict.specs.Verdict.{bookAfter}
 use Rattle.verdict.specs.Settle.{shortFault}
-use Rattle.desk.specs.Counting.{planFor, planOf, countsAs, countsFor, fieldsFault}
+use Rattle.counts.specs.Counting.{planFor, planOf, countsAs, countsFor, fieldsFault}
 use Rattle.desk.specs.Open.{handedFault}
 use Rattle.desk.specs.Offences.{familyOf, reachedAt, lowest, lowestOn, verdictOn}
 use Rattle.desk.specs.End.{rowFault}

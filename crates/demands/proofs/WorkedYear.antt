@@ -9,7 +9,7 @@ use borrow.Author.Tests.{eq-eqb}
 use lib.ListN.{length, replicate, length-replicate}
 use Rattle.wire.specs.Choice.{pick, orElse}
 use Rattle.wire.specs.Outcomes.{answered}
-use Rattle.wire.specs.Places.{every, some, first}
+use Rattle.wire.specs.Below.{every, some, first}
 use Rattle.wire.specs.Bytes.{le}
 use Rattle.calendar.specs.Dates.{year, realDay, monthDays}
 use Rattle.rules.specs.Choices.{byThree}
@@ -20,13 +20,13 @@ use Rattle.rules.specs.Kinds.{kindsOf, kindsIn, firstKind}
 use Rattle.places.specs.Places.{ladders, ladderOf}
 use Rattle.book.specs.Layout.{lastDate, totalAt}
 use Rattle.daylog.specs.declared.record.Record.{Record}
-use Rattle.daylog.specs.Contracts.{contractAt, idBefore, contractsGood, contractPlace}
-use Rattle.daylog.specs.Accounts.{accountAt, numberBefore, accountsGood, accountPlace}
-use Rattle.daylog.specs.Header.{headerOf, entriesFault, headFault, logFault}
+use Rattle.tables.specs.Contracts.{contractAt, idBefore, contractsGood, contractPlace}
+use Rattle.tables.specs.Accounts.{accountAt, numberBefore, accountsGood, accountPlace}
+use Rattle.daylog.specs.Header.{headerOf, entriesFault, headFault, logFault, tablesOf}
 use Rattle.daylog.specs.Records.{recordLength, recordOf, recordGood, endGood}
 use Rattle.daylog.specs.Rows.{rowSize}
-use Rattle.daylog.specs.Tables.{tablesIn, tablesOf, accountOf, contractOf, hasAccount, hasContract, groupOf}
-use Rattle.desk.specs.Counting.{planFor, planOf, countsAs, countsFor, fieldsFault}
+use Rattle.tables.specs.Tables.{tablesIn, accountOf, contractOf, hasAccount, hasContract, groupOf}
+use Rattle.counts.specs.Counting.{planFor, planOf, countsAs, countsFor, fieldsFault}
 use Rattle.desk.specs.Offences.{familyOf}
 use Rattle.desk.specs.End.{rowFault}
 use Rattle.demands.specs.Counts.{howMany, timesOf, reachesOn, offence}

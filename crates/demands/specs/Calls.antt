@@ -2,10 +2,10 @@
 -- left them". What a call gives is what its contract promises, and nothing else is known of it.
 use Prim.Native.Nat.{ℕ, _*_}
 use mathlib.Core.List.{List, [], _∷_, map}
-use Rattle.book.specs.declared.fresh.NewBook.{NewBook}
+use Rattle.posting.specs.declared.fresh.NewBook.{NewBook}
 use Rattle.book.specs.declared.ask.Asked.{Asked}
 use Rattle.rules.specs.Kinds.{mostKinds}
-use Rattle.book.specs.Fresh.{freshNumber}
+use Rattle.posting.specs.Fresh.{freshNumber}
 use Rattle.book.specs.Ask.{askNumber}
 use Rattle.desk.specs.declared.state.State.{State}
 use Rattle.desk.specs.declared.state.Answer.{Answer}

@@ -4,11 +4,11 @@ use mathlib.Core.Bool.{Bool, _&&_}
 use mathlib.Core.List.{List, [], _∷_}
 use lib.Dec.{eqb}
 use Rattle.wire.specs.Choice.{pick}
-use Rattle.wire.specs.Places.{some}
+use Rattle.wire.specs.Below.{some}
 use Rattle.rules.specs.Measure.{times, enough, reached}
 use Rattle.daylog.specs.declared.record.Record.{Record}
-use Rattle.daylog.specs.Tables.{Tables}
-use Rattle.desk.specs.Counting.{countsFor}
+use Rattle.tables.specs.Tables.{Tables}
+use Rattle.counts.specs.Counting.{countsFor}
 use Rattle.places.specs.Places.{groupAt, kindAt, familyAt}
 use Rattle.verdict.specs.Verdict.{Verdict}
 use Rattle.desk.specs.Offences.{kindsOn, familyOf, verdictOn}

@@ -8,8 +8,8 @@ use Rattle.calendar.specs.Dates.{year}
 use Rattle.book.specs.Shape.{rulebookOf}
 use Rattle.book.specs.Layout.{bookOf, lastDate, totalAt}
 use Rattle.daylog.specs.declared.record.Record.{Record}
-use Rattle.daylog.specs.Header.{headerOf}
-use Rattle.daylog.specs.Tables.{Tables, tablesOf}
+use Rattle.daylog.specs.Header.{headerOf, tablesOf}
+use Rattle.tables.specs.Tables.{Tables}
 use Rattle.verdict.specs.Verdict.{foundAt}
 use Rattle.demands.specs.Counts.{howMany, timesOf, offence, offenceAt, dayVerdict}
 

@@ -6,7 +6,7 @@ use mathlib.Core.List.{List, [], _∷_}
 use Prim.Native.Nat.{ℕ}
 use lib.ListN.{length}
 use Rattle.rules.specs.Ladders.{rung}
-use Rattle.daylog.specs.Tables.{tablesOf}
+use Rattle.daylog.specs.Header.{tablesOf}
 use Rattle.book.specs.Shape.{shapeOf}
 use Rattle.book.specs.Ask.{totalOf, askedTotal, askedRung}
 use Rattle.verdict.specs.Verdict.{foundCount}

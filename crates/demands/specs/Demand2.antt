@@ -17,9 +17,9 @@ use Rattle.places.specs.Places.{ladders}
 use Rattle.book.specs.Layout.{lastDate, totalAt}
 use Rattle.book.specs.Sound.{sound}
 use Rattle.daylog.specs.declared.record.Record.{Record}
-use Rattle.daylog.specs.Header.{logFault}
+use Rattle.daylog.specs.Header.{logFault, tablesOf}
 use Rattle.daylog.specs.Rows.{front, rowsOf}
-use Rattle.daylog.specs.Tables.{Tables, tablesOf}
+use Rattle.tables.specs.Tables.{Tables}
 use Rattle.verdict.specs.Verdict.{findings, foundCount}
 use Rattle.desk.specs.Books.{freshFault}
 use Rattle.desk.specs.declared.state.State.the-variants.{Closed}

@@ -14,7 +14,7 @@ use Rattle.rules.specs.Codes.{isRulebook}
 use Rattle.book.specs.Shape.{rulebookOf}
 use Rattle.places.specs.Places.{ladders, ladderOf, groupAt, HasCell, HasLadder}
 use Rattle.book.specs.Layout.{totalAt}
-use Rattle.daylog.specs.Tables.{tablesOf}
+use Rattle.daylog.specs.Header.{tablesOf}
 use Rattle.desk.specs.declared.state.State.the-variants.{Closed}
 use Rattle.desk.specs.Offences.{kindsOn}
 use Rattle.demands.specs.Days.{PastDay, timesIn, offenceIn, foundOn, blank}

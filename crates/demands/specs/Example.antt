@@ -9,7 +9,7 @@ use Rattle.wire.specs.Choice.{pick}
 use Rattle.rules.specs.Kinds.{kindsOf}
 use Rattle.places.specs.Places.{ladderOf}
 use Rattle.daylog.specs.declared.record.Record.{Record}
-use Rattle.daylog.specs.Tables.{Tables}
+use Rattle.tables.specs.Tables.{Tables}
 use Rattle.demands.specs.Days.{PastDay, blank}
 use Rattle.demands.specs.Samples.{futures, plainTrade}
 use Rattle.demands.specs.Join.{Joined}

@@ -9,8 +9,8 @@ use Rattle.wire.specs.Choice.{pick}
 use Rattle.daylog.specs.declared.header.Header.{Header}
 use Rattle.daylog.specs.declared.record.Record.{Record}
 use Rattle.daylog.specs.Header.{headerOf}
-use Rattle.daylog.specs.Tables.{Tables, contractOf, groupOf}
-use Rattle.desk.specs.Counting.{exempt1, exempt2}
+use Rattle.tables.specs.Tables.{Tables, contractOf, groupOf}
+use Rattle.counts.specs.Counting.{exempt1, exempt2}
 use Rattle.demands.specs.Counts.{howMany}
 
 -- ---- the change of bytes

@@ -15,5 +15,4 @@ pub mod Example
 pub mod Starred
 pub mod Worked
 pub mod WorkedYear
-pub mod Tied
 pub mod Promised

@@ -10,7 +10,7 @@ use Rattle.rules.specs.declared.kinds.Kinds.{Kinds}
 use Rattle.places.specs.Places.{ladders, ladderOf, groupAt, kindAt}
 use Rattle.verdict.specs.Verdict.{finding, totalAfter}
 use Rattle.daylog.specs.declared.record.Record.{Record}
-use Rattle.daylog.specs.Tables.{Tables, memberOn}
+use Rattle.tables.specs.Tables.{Tables, memberOn}
 use Rattle.desk.specs.Offences.{kindsOn, lowestOn}
 use Rattle.demands.specs.Counts.{timesOn, reachesAt, offenceAt, dayVerdict}
 

@@ -8,10 +8,9 @@ use lib.ListN.{length, replicate}
 use Rattle.wire.specs.Choice.{pick, orElse}
 use Rattle.wire.specs.Buffers.{put}
 use Rattle.daylog.specs.declared.record.Record.{Record}
-use Rattle.daylog.specs.Header.{headerOf}
+use Rattle.daylog.specs.Header.{headerOf, tablesOf}
 use Rattle.daylog.specs.Records.{recordOf}
 use Rattle.daylog.specs.Rows.{front, rowSize, rowsOf, isEnd}
-use Rattle.daylog.specs.Tables.{tablesOf}
 use Rattle.rules.specs.Kinds.{mostKinds}
 use Rattle.verdict.specs.Verdict.{findings, bookAfter}
 use Rattle.desk.specs.declared.state.State.the-variants.{Closed}

@@ -6,13 +6,12 @@ use lib.Dec.{leb, eqb}
 use lib.ListN.{length}
 use Rattle.wire.specs.Choice.{pick, orElse}
 use Rattle.wire.specs.Outcomes.{answered}
-use Rattle.book.specs.declared.fresh.NewBook.the-variants.{Made, Refused as NotMade}
+use Rattle.posting.specs.declared.fresh.NewBook.the-variants.{Made, Refused as NotMade}
 use Rattle.book.specs.Fits.{bookFault}
 use Rattle.daylog.specs.declared.record.Record.{Record}
-use Rattle.daylog.specs.Header.{headerOf}
+use Rattle.daylog.specs.Header.{headerOf, tablesOf}
 use Rattle.daylog.specs.Records.{recordOf}
 use Rattle.daylog.specs.Rows.{rowSize}
-use Rattle.daylog.specs.Tables.{tablesOf}
 use Rattle.desk.specs.declared.state.Day.{Day}
 use Rattle.desk.specs.declared.state.State.the-variants.{Closed, Open}
 use Rattle.desk.specs.declared.end.Ended.the-variants.{Done, Refused}
@@ -22,7 +21,7 @@ use Rattle.desk.specs.declared.state.State.{State}
 use Rattle.desk.specs.declared.state.Answer.{Answer}
 use Rattle.desk.specs.declared.state.Answer.the-variants.{Done as Moved, Refused as NotMoved}
 use Rattle.desk.specs.Books.{freshFault, askAnswer}
-use Rattle.desk.specs.Counting.{fieldsFault}
+use Rattle.counts.specs.Counting.{fieldsFault}
 use Rattle.desk.specs.Open.{handedFault}
 use Rattle.desk.specs.End.{rowFault}
 use Rattle.demands.specs.Counts.{dayVerdict}

@@ -12,7 +12,7 @@ use Rattle.rules.specs.Ladders.{rung, sanction}
 use Rattle.rules.specs.Kinds.{kindsOf}
 use Rattle.book.specs.Shape.{rulebookOf}
 use Rattle.places.specs.Places.{ladders, groupAt, kindAt}
-use Rattle.daylog.specs.Tables.{memberOn}
+use Rattle.tables.specs.Tables.{memberOn}
 use Rattle.desk.specs.Offences.{kindsOn}
 use Rattle.demands.specs.Days.{PastDay, offenceOn, totalOver, foundOn}
 

@@ -6,7 +6,7 @@ use lib.Dec.{eqb}
 use Rattle.wire.specs.Choice.{pick}
 use Rattle.book.specs.Layout.{bookOf}
 use Rattle.rules.specs.Measure.{lots}
-use Rattle.daylog.specs.declared.contracts.Contract.{Contract}
+use Rattle.tables.specs.declared.contracts.Contract.{Contract}
 use Rattle.daylog.specs.declared.record.Record.{Record}
 
 -- a futures contract of product 0, and so of family 0 in both rulebooks

@@ -15,8 +15,8 @@ use Rattle.rules.specs.Kinds.{kindsOf}
 use Rattle.places.specs.Places.{ladderOf}
 use Rattle.book.specs.Sound.{sound}
 use Rattle.daylog.specs.declared.record.Record.{Record}
-use Rattle.daylog.specs.Tables.{Tables}
-use Rattle.desk.specs.Counting.{countsFor}
+use Rattle.tables.specs.Tables.{Tables}
+use Rattle.counts.specs.Counting.{countsFor}
 use Rattle.demands.specs.Counts.{offence}
 use Rattle.demands.specs.Samples.{futures, plainTrade, bookWithOne}
 

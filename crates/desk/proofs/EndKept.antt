@@ -8,17 +8,17 @@ use borrow.Author.Tests.{leb-true, le-ltb, ne-eqb}
 use lib.Dec.{leb, eqb}
 use Rattle.wire.specs.Choice.{pick}
 use Rattle.wire.proofs.ChoiceLaws.{pick-yes, and-left, and-right, and-no}
-use Rattle.wire.proofs.PlaceLaws.{first-none}
+use Rattle.wire.proofs.BelowLaws.{first-none}
 use Rattle.calendar.specs.Dates.{realDay}
 use Rattle.rules.specs.declared.text.Text.{Text}
 use Rattle.rules.specs.Choices.{byThree}
 use Rattle.rules.specs.Ladders.{family}
-use Rattle.daylog.specs.Header.{headerOf}
-use Rattle.daylog.specs.Tables.{Tables, tablesIn, tablesOf}
+use Rattle.daylog.specs.Header.{headerOf, tablesOf}
+use Rattle.tables.specs.Tables.{Tables, tablesIn}
 use Rattle.places.specs.Places.{ladders, familyAt}
 use Rattle.book.specs.Shape.{dayShape, rulebookOf}
 use Rattle.book.specs.Layout.{lastDate, totalAt}
-use Rattle.book.specs.Raise.{laterYear}
+use Rattle.posting.specs.Raise.{laterYear}
 use Rattle.book.specs.Sound.{sound}
 use Rattle.book.proofs.BookLaws.{SoundBook, rulebook-of-book}
 use Rattle.verdict.specs.Verdict.{offends, totalAfter, bookAfter}

@@ -7,18 +7,17 @@ use native.Mathlib.Omega.{arith}
 use borrow.Author.Tests.{lt-ltb, le-ltb}
 use lib.ListN.{length, getD, take, drop, length-take, length-drop}
 use Rattle.wire.proofs.ChoiceLaws.{or-else, or-none, pick-yes, pick-no}
-use Rattle.wire.proofs.PlaceLaws.{count-le}
+use Rattle.wire.proofs.BelowLaws.{count-le}
 use Rattle.rules.specs.declared.kinds.Kinds.{Kinds}
 use Rattle.rules.specs.Kinds.{kindsOf, kindsIn, mostKinds}
 use Rattle.rules.proofs.KindLaws.{few, kinds-most}
 use Rattle.wire.proofs.AnswerLaws.{outcome-map, answer-refused, answer-done}
 use Rattle.daylog.specs.declared.header.Header.{Header}
-use Rattle.daylog.specs.Entries.{entries}
-use Rattle.daylog.specs.Header.{headerOf}
+use Rattle.tables.specs.Entries.{entries}
+use Rattle.daylog.specs.Header.{headerOf, tablesOf}
 use Rattle.daylog.specs.GoodLog.{GoodLog}
-use Rattle.daylog.specs.Tables.{tablesOf}
 use Rattle.places.specs.Places.{ladders, bookSize, cells}
-use Rattle.book.specs.Raise.{hitAt}
+use Rattle.posting.specs.Raise.{hitAt}
 use Rattle.book.specs.Shape.{dayShape, shapeOf}
 use Rattle.book.specs.Fits.{bookFault}
 use Rattle.book.proofs.FitsLaws.{Fits, fits}
@@ -34,11 +33,11 @@ use Rattle.desk.specs.declared.end.Ended.{Ended}
 use Rattle.desk.specs.declared.end.Ended.the-variants.{Done, Refused as NotEnded}
 use Rattle.desk.specs.declared.end.Ending.the-variants.{Finds, Refused as NotFound}
 use Rattle.desk.specs.Open.{kindsFor}
-use Rattle.desk.specs.Take.{callFault}
+use Rattle.desk.specs.Take.{sizesFault}
 use Rattle.desk.specs.Offences.{kindsOn, verdictOn}
 use Rattle.desk.specs.Way.{dayPlaces}
-use Rattle.desk.specs.End.{rowFault, lentFault, cellsFault, cellVerdict, countsFault, dayFound, DayEnds}
-use Rattle.desk.proofs.HandedLaws.{sound-call, room-called}
+use Rattle.desk.specs.End.{callFault, rowFault, lentFault, cellsFault, cellVerdict, countsFault, dayFound, DayEnds}
+use Rattle.desk.proofs.HandedLaws.{room-sized, sound-tables}
 use Rattle.desk.proofs.VerdictLaws.{dayBytes, day-same, kinds-are, count-same}
 
 -- no more ladders have an offence than there are
@@ -69,15 +68,16 @@ fits-day rulebook date book e =
     rw (f .same) at f
 
 pub handed : (day : Day) (log row book : List ℕ) (len : ℕ) → lentFault day log row book len ≡ 0 → Handed day log book len
-unfolding lentFault
+unfolding lentFault callFault
 handed day log row book len e =
     let e1 = or-none (callFault day log row len) _ e in
     let e2 = or-none (rowFault day row) _ (e1 .1) in
-    let call = sound-call day log row len (e1 .0) in record {
-      head = call .0;
-      tables = call .1;
+    let call = or-none (sizesFault day row len) _ (e1 .0) in
+    let sound = sound-tables (day .head) log (call .1) in record {
+      head = sound .0;
+      tables = sound .1;
       fit = fits-day (day .head .rulebook) (day .head .date) book (e2 .1);
-      counts-long = room-called day log row len (e1 .0);
+      counts-long = room-sized day row len (call .0);
     }
 
 -- the day's book has its length

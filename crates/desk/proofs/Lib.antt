@@ -1,5 +1,3 @@
-pub mod CellLaws
-pub mod WeighLaws
 pub mod HandedLaws
 pub mod LowestLaws
 pub mod VerdictLaws

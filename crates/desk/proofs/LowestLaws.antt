@@ -5,7 +5,7 @@ use mathlib.Core.List.{List}
 use Prim.Native.Nat.{ℕ, _+_, _*_, _/_, _<_}
 use lib.Dec.{eqb}
 use lib.ListN.{length, getD}
-use Rattle.wire.proofs.PlaceLaws.{first-at, first-none}
+use Rattle.wire.proofs.BelowLaws.{first-at, first-none}
 use Rattle.rules.specs.declared.text.Text.{Text}
 use Rattle.rules.specs.declared.kinds.Kinds.{Kinds}
 use Rattle.rules.specs.declared.measure.Times.{Times}

@@ -4,10 +4,10 @@ use mathlib.Core.Path.{_≡_, sym, _∙_}
 use mathlib.Core.List.{List}
 use Prim.Native.Nat.{ℕ}
 use Rattle.wire.proofs.AnswerLaws.{one-outcome}
-use Rattle.book.specs.declared.fresh.NewBook.{NewBook}
+use Rattle.posting.specs.declared.fresh.NewBook.{NewBook}
 use Rattle.book.specs.declared.ask.Asked.{Asked}
 use Rattle.desk.specs.declared.state.Answer.{Answer}
-use Rattle.desk.specs.declared.judge.Weighed.{Weighed}
+use Rattle.counts.specs.declared.weigh.Weighed.{Weighed}
 use Rattle.desk.specs.declared.end.Ending.{Ending}
 use Rattle.desk.specs.declared.end.Ended.{Ended}
 use Rattle.desk.proofs.open.would_open.Reads as would-open-reads

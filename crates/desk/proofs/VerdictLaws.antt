@@ -10,11 +10,11 @@ use lib.Dec.{eqb}
 use lib.ListN.{length, getD, take, drop, length-take, length-drop}
 use lib.Seq.{getD-drop}
 use Rattle.wire.specs.Choice.{pick}
-use Rattle.wire.specs.Places.{first}
+use Rattle.wire.specs.Below.{first}
 use Rattle.wire.specs.Bytes.{le, bytes}
 use Rattle.wire.specs.Buffers.{rows}
 use Rattle.wire.proofs.ChoiceLaws.{pick-yes}
-use Rattle.wire.proofs.PlaceLaws.{first-cong}
+use Rattle.wire.proofs.BelowLaws.{first-cong}
 use Rattle.wire.proofs.ByteLaws.{bytes-length, le-bytes, le-cong, le-two}
 use Rattle.wire.proofs.BufferLaws.{ones-at, ones-length, rows-at, rows-length}
 use Rattle.rules.specs.declared.text.Text.{Text}
@@ -23,15 +23,15 @@ use Rattle.rules.specs.Kinds.{kindsOf}
 use Rattle.rules.specs.Measure.{times, enough, reached}
 use Rattle.rules.specs.Ladders.{family}
 use Rattle.daylog.specs.declared.header.Header.{Header}
-use Rattle.daylog.specs.Header.{headerOf, textOf, contractsPart, accountsPart}
+use Rattle.daylog.specs.Header.{headerOf, textOf, contractsPart, accountsPart, tablesOf}
 use Rattle.daylog.specs.GoodLog.{GoodLog}
-use Rattle.daylog.specs.Entries.{entries}
-use Rattle.daylog.specs.Contracts.{contractAt, contractIn}
-use Rattle.daylog.specs.Accounts.{accountAt, hasMember}
-use Rattle.daylog.specs.Tables.{Tables, tablesIn, tablesOf, memberOn}
+use Rattle.tables.specs.Entries.{entries}
+use Rattle.tables.specs.Contracts.{contractAt, contractIn}
+use Rattle.tables.specs.Accounts.{accountAt, hasMember}
+use Rattle.tables.specs.Tables.{Tables, tablesIn, memberOn}
 use Rattle.places.specs.Places.{ladders, kindAt, familyAt}
 use Rattle.book.specs.Shape.{dayShape}
-use Rattle.book.specs.Raise.{placeIn}
+use Rattle.posting.specs.Raise.{placeIn}
 use Rattle.verdict.specs.Verdict.{Verdict, verdictIn, foundCount, foundIn}
 use Rattle.verdict.proofs.SettleLaws.{found-in}
 use Rattle.verdict.proofs.SameVerdict.{Same, same-count}

@@ -2,10 +2,10 @@
 use mathlib.Core.Path.{_≡_}
 use Prim.Native.Nat.{ℕ}
 use mathlib.Core.List.{List}
-use Rattle.book.specs.declared.fresh.NewBook.{NewBook}
+use Rattle.posting.specs.declared.fresh.NewBook.{NewBook}
 use Rattle.book.specs.declared.ask.Asked.{Asked}
 use Rattle.book.specs.Shape.{dayShape, shapeOf}
-use Rattle.book.specs.Fresh.{freshFaultAs, FreshGivesAs}
+use Rattle.posting.specs.Fresh.{freshFaultAs, FreshGivesAs}
 use Rattle.book.specs.Ask.{askFaultAs, askAnswerAs}
 
 -- a fresh book has the shape of its rulebook's offences

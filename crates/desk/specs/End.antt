@@ -6,11 +6,13 @@ use lib.Dec.{leb, eqb}
 use lib.ListN.{length, getD}
 use Rattle.wire.specs.Choice.{pick, orElse}
 use Rattle.wire.specs.Outcomes.{answered, Outcome}
-use Rattle.wire.specs.Places.{every}
+use Rattle.wire.specs.Below.{every}
 use Rattle.wire.specs.Bytes.{le}
 use Rattle.rules.specs.declared.kinds.Kinds.{Kinds}
 use Rattle.daylog.specs.Records.{endGood}
-use Rattle.daylog.specs.Tables.{Tables, tablesOf}
+use Rattle.daylog.specs.Changed.{changedFault}
+use Rattle.tables.specs.Tables.{Tables}
+use Rattle.daylog.specs.Header.{tablesOf}
 use Rattle.places.specs.Places.{cells, cellOf, groupAt, kindAt}
 use Rattle.book.specs.Fits.{bookFault}
 use Rattle.verdict.specs.Verdict.{Verdict, foundCount}
@@ -22,8 +24,12 @@ use Rattle.desk.specs.declared.end.Ended.{Ended}
 use Rattle.desk.specs.declared.end.Ended.the-variants.{Done, Refused}
 use Rattle.desk.specs.declared.end.Ending.{Ending}
 use Rattle.desk.specs.declared.end.Ending.the-variants.{Finds, Refused as NotFound}
-use Rattle.desk.specs.Take.{callFault}
+use Rattle.desk.specs.Take.{sizesFault}
 use Rattle.desk.specs.Offences.{kindsOn, verdictOn}
+
+-- what the call is handed: 1 and 16 as for taking, and "19: changed since opening", of the tables
+unfoldable pub callFault : Day → (log row : List ℕ) → (len : ℕ) → ℕ
+callFault day log row len = orElse (sizesFault day row len) (changedFault (day .head) log)
 
 -- "11: .. wrong type for the call"; "15: end record's number is not the records taken"
 unfoldable pub rowFault : Day → List ℕ → ℕ

@@ -1,5 +1,3 @@
-pub mod Counting
-pub mod Cells
 pub mod Answers
 pub mod Books
 pub mod Open

@@ -3,13 +3,13 @@
 use Prim.Native.Nat.{ℕ}
 use mathlib.Core.Bool.{Bool, _&&_}
 use lib.Dec.{eqb}
-use Rattle.wire.specs.Places.{first}
+use Rattle.wire.specs.Below.{first}
 use Rattle.rules.specs.declared.text.Text.{Text}
 use Rattle.rules.specs.declared.kinds.Kinds.{Kinds}
 use Rattle.rules.specs.Kinds.{kindsOf}
 use Rattle.rules.specs.Measure.{times, enough, reached}
 use Rattle.rules.specs.Ladders.{family}
-use Rattle.daylog.specs.Tables.{Tables, memberOn}
+use Rattle.tables.specs.Tables.{Tables, memberOn}
 use Rattle.places.specs.Places.{kindAt, familyAt}
 use Rattle.book.specs.Shape.{dayShape}
 use Rattle.verdict.specs.Verdict.{Verdict}

@@ -1,8 +1,5 @@
--- The way, not the meaning: a day's verdict as bytes, which proofs/VerdictLaws shows to be specs/Offences' `verdictOn`;
--- and what must be known before a cell is raised.
-use mathlib.Core.Path.{_≡_}
-use mathlib.Core.Bool.{true}
-use Prim.Native.Nat.{ℕ, _+_, _≤_}
+-- The way, not the meaning: a day's verdict as bytes, which proofs/VerdictLaws shows to be specs/Offences' `verdictOn`.
+use Prim.Native.Nat.{ℕ, _+_}
 use mathlib.Core.List.{List, [], _∷_}
 use lib.ListN.{length, getD}
 use Rattle.wire.specs.Choice.{pick}
@@ -13,13 +10,10 @@ use Rattle.rules.specs.declared.kinds.Kinds.{Kinds}
 use Rattle.rules.specs.Ladders.{family}
 use Rattle.daylog.specs.declared.header.Header.{Header}
 use Rattle.daylog.specs.Header.{textOf, contractsPart}
-use Rattle.daylog.specs.Entries.{entries}
-use Rattle.daylog.specs.Contracts.{contractIn}
-use Rattle.daylog.specs.Accounts.{accountAt, hasMember}
+use Rattle.tables.specs.Entries.{entries}
+use Rattle.tables.specs.Contracts.{contractIn}
+use Rattle.tables.specs.Accounts.{accountAt, hasMember}
 use Rattle.places.specs.Places.{ladders}
-use Rattle.desk.specs.declared.judge.Plan.{Plan}
-use Rattle.desk.specs.Counting.{countsAs}
-use Rattle.desk.specs.Cells.{cellFor}
 use Rattle.desk.specs.Open.{kindsFor}
 use Rattle.desk.specs.Offences.{lowest}
 use Rattle.desk.specs.End.{inCells}
@@ -49,7 +43,3 @@ idsIn contracts = rows (λ k. bytes 2 (contractIn contracts k .id)) (entries con
 -- a byte for each group, 1 where it has a member among the accounts
 unfoldable pub membersIn : List ℕ → List ℕ
 membersIn accounts = rows (λ g. pick (hasMember (accountAt accounts) (entries accounts) (g + 1)) 1 0 ∷ []) 128
-
--- the cell that would be raised for a kind stands at m at most
-unfoldable pub Small : ℕ → Kinds → Plan → List ℕ → ℕ → Type 0
-Small m kinds p c kind = countsAs p kind ≡ true → getD c (cellFor kinds p kind) 0 ≤ m

@@ -1,10 +1,10 @@
 // Making a fresh book of offences, and asking one for a total.
 use book::ask::Asked;
 use book::ask::ask_as;
-use book::fresh::NewBook;
-use book::fresh::fresh_as;
 use book::shape::day_shape;
 use book::sound::shape_of;
+use posting::fresh::NewBook;
+use posting::fresh::fresh_as;
 ghost use Rattle.desk.specs.Books.{FreshGives, AskGives};
 
 // Writes a fresh book of a rulebook over the whole buffer, or refuses and leaves it.

@@ -3,9 +3,10 @@ use crate::ladders::cells_good;
 use crate::open::book_fault;
 use crate::state::Day;
 use crate::state::State;
-use crate::take::call_fault;
+use crate::take::sizes_fault;
 use crate::verdicts::judge_day;
 use crate::verdicts::settle_day;
+use daylog::changed::tables_changed;
 use daylog::header::text_of;
 use daylog::record::end_good;
 use places::MOST_LADDERS;
@@ -23,11 +24,11 @@ ghost use mathlib.Core.Path.{_≡_};
 ghost use Prim.Native.Nat.{_*_, _≤_};
 ghost use lib.ListN.{length};
 ghost use Rattle.rules.specs.Kinds.{kindsOf};
-ghost use Rattle.daylog.specs.Header.{headerOf};
+ghost use Rattle.daylog.specs.Header.{headerOf, tablesOf};
 ghost use Rattle.daylog.specs.GoodLog.{GoodLog};
-ghost use Rattle.daylog.specs.Tables.{tablesOf};
 ghost use Rattle.places.specs.Places.{ladders, cells, bookSize};
-ghost use Rattle.desk.specs.End.{rowFault, lentFault, cellsFault, countsFault, dayFound, wouldEnd, DayEnds, EndGives};
+ghost use Rattle.desk.specs.End.{callFault, rowFault, lentFault, cellsFault, countsFault, dayFound, wouldEnd};
+ghost use Rattle.desk.specs.End.{DayEnds, EndGives};
 ghost use Rattle.desk.specs.Way.{dayPlaces};
 
 pub enum Ended {
@@ -40,6 +41,21 @@ pub enum Ended {
 pub enum Ending {
     Finds(usize),
     Refused(u32),
+}
+
+// The record's length, the number of counts, the tables.
+fn call_fault(day: Day, log: &[u8], row: &[u8], len: usize) -> u32
+    ensures { λ r. ⌜ r ≡ callFault day (now (log .entry)) (now (row .entry)) len ⌝ }
+{
+    let fault = sizes_fault(day, row, len);
+    if fault != 0 {
+        return fault;
+    }
+    let head = day.head;
+    if tables_changed(head, log) {
+        return CHANGED;
+    }
+    0
 }
 
 fn row_fault(day: Day, row: &[u8]) -> u32

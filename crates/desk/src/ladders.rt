@@ -1,5 +1,4 @@
 // Which contract, if any, reaches each ladder's number.
-use daylog::contracts::contract_at;
 use places::cells_in;
 use places::kind_at;
 use places::ladders_in;
@@ -9,11 +8,12 @@ use rules::measure::Times;
 use rules::measure::enough_of;
 use rules::measure::is_reached;
 use rules::text::Text;
+use tables::contracts::contract_at;
 use wire::write::put8;
 ghost use mathlib.Core.Path.{_≡_};
 ghost use Prim.Native.Nat.{_≤_, _<_};
 ghost use lib.ListN.{length};
-ghost use Rattle.daylog.specs.Entries.{entries};
+ghost use Rattle.tables.specs.Entries.{entries};
 ghost use Rattle.places.specs.Places.{ladders, cells};
 ghost use Rattle.desk.specs.End.{cellsGood};
 ghost use Rattle.desk.specs.Way.{familiesIn, placeAt, placesIn};

@@ -2,9 +2,7 @@
 // book, the counts and the findings.
 pub mod abandon;
 pub mod books;
-mod cells;
 pub mod end;
-mod judge;
 mod ladders;
 pub mod open;
 pub mod state;

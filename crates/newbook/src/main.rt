@@ -1,10 +1,10 @@
 // Makes a fresh `book.axb` in the working folder, for the rulebook that its argument names. It never touches one that
 // is there.
-use book::fresh::NewBook;
 use libc::STDERR_FILENO;
 use libc::STDOUT_FILENO;
 use places::MOST_BOOK;
 use places::book_size;
+use posting::fresh::NewBook;
 use rules::kinds::kinds_of;
 
 // The rulebook that the only argument names: one digit and no more. Anything else is 0, which no rulebook has.

@@ -4,10 +4,10 @@ use crate::line::print;
 use crate::script::bytes_from;
 use crate::script::get64;
 use book::ask::Asked;
-use book::fresh::NewBook;
 use desk::end::Ended;
 use desk::state::Answer;
 use desk::state::State;
+use posting::fresh::NewBook;
 use wire::read::get8;
 use wire::read::get32;
 

@@ -14,7 +14,7 @@ use Rattle.calendar.proofs.DateLaws.{real, number-least, number-most, number-ri
 use Rattle.places.specs.Places.{ladders, familyAt}
 use Rattle.book.specs.Shape.{rulebookOf}
 use Rattle.book.specs.Layout.{lastDate, totalAt}
-use Rattle.book.specs.Raise.{laterYear, nextTotal}
+use Rattle.posting.specs.Raise.{laterYear, nextTotal}
 use Rattle.book.specs.Sound.{mostOf, soundAs}
 use Rattle.book.proofs.BookLaws.{SoundBook, sound-of-book, total-of-book, most-le, real-dated, dated-cases}
 use Rattle.verdict.specs.Verdict.{Verdict, offends, totalAfter, bookAfter}

@@ -17,7 +17,7 @@ use Rattle.rules.specs.Kinds.{kindsIn}
 use Rattle.rules.proofs.KindLaws.{few}
 use Rattle.places.specs.Places.{bookSize}
 use Rattle.book.specs.Layout.{totalAt}
-use Rattle.book.specs.Raise.{nextTotal, hitAt, raisedPart}
+use Rattle.posting.specs.Raise.{nextTotal, hitAt, raisedPart}
 use Rattle.places.proofs.LadderLaws.{part-there, parts-there}
 use Rattle.verdict.specs.Way.{totalBytes}
 
@@ -40,6 +40,12 @@ part-fits kinds n g e h =
 pub parts-fit : (kinds : Kinds) (n g : ℕ) → n ≡ kindsIn kinds → g ≤ 128 → 16 + 2 * (16 * n) * g ≤ bookSize kinds
 parts-fit kinds n g e h = rw e (parts-there kinds g h)
 
+-- the same in a book of that size, for a group and up to the next
+pub next-fits : (kinds : Kinds) (n g size : ℕ) → n ≡ kindsIn kinds → g < 128 → size ≡ bookSize kinds
+    → (16 + 2 * (16 * n) * g + 2 * (16 * n) ≤ size) × (16 + 2 * (16 * n) * (g + 1) ≤ size)
+next-fits kinds n g size e h q =
+    (rw q (part-fits kinds n g e h .0), rw q (parts-fit kinds n (g + 1) e (omega arith)))
+
 module _ (own : ℕ) (later : Bool) (places book : List ℕ) (contracts : ℕ) where
   -- the bytes of one group's totals after the day
   abbrev pub groupBytes : ℕ → List ℕ
@@ -54,6 +60,10 @@ module _ (own : ℕ) (later : Bool) (places book : List ℕ) (contracts : ℕ) w
 
   all-length : (g : ℕ) → length (rows groupBytes g) ≡ 2 * own * g
   all-length g = rows-length groupBytes (2 * own) group-length g
+
+  pub raised-length : (n : ℕ) → 16 + 2 * own * n ≤ length book
+      → length (put book 16 (rows groupBytes n)) ≡ length book
+  raised-length n h = length-put book 16 (rows groupBytes n) (rw all-length (omega arith))
 
   -- a group's part of the book, while the groups before it are raised
   module _ (b : List ℕ) (g : ℕ) (fits : 16 + 2 * own * g + 2 * own ≤ length book) (l : length b ≡ length book)
@@ -96,8 +106,13 @@ module _ (own : ℕ) (later : Bool) (places book : List ℕ) (contracts : ℕ) w
         (then-row groupBytes (2 * own) group-length book b _ 16 begins g (omega arith) refl e
         (mid-put b p begins (2 * own) (ap length got ∙ group-length g) ∙ ap (put b begins) got))
 
-  pub raised-length : (n : ℕ) → 16 + 2 * own * n ≤ length book → length (put book 16 (rows groupBytes n)) ≡ length book
-  raised-length n h = length-put book 16 (rows groupBytes n) (rw all-length (omega arith))
+    -- and the book is as long as before
+    pub group-again : (p : List ℕ)
+        → p ≡ raisedPart (take (begins + 2 * own - begins) (drop begins b)) later places (own * g) contracts
+        → 16 + 2 * own * (g + 1) ≤ length book
+        → (length (putMid begins (begins + 2 * own - begins) b p) ≡ length book)
+        × (putMid begins (begins + 2 * own - begins) b p ≡ put book 16 (rows groupBytes (g + 1)))
+    group-again p q h = let turn = group-turn p q in (ap length turn ∙ raised-length (g + 1) h, turn)
 
   -- all groups' bytes are all ladders'
   pub all-groups : (n : ℕ) → own * 128 ≡ n → rows groupBytes 128 ≡ rows (totalBytes later places book contracts) n

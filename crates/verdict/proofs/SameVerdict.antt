@@ -9,17 +9,17 @@ use lib.Dec.{ltb, eqb}
 use lib.ListN.{length}
 use Rattle.wire.specs.Choice.{pick}
 use Rattle.wire.specs.Outcomes.{answered}
-use Rattle.wire.specs.Places.{count}
+use Rattle.wire.specs.Below.{count}
 use Rattle.wire.specs.Bytes.{bytes}
 use Rattle.wire.specs.Buffers.{put, rows}
 use Rattle.wire.proofs.ChoiceLaws.{pick-yes, pick-no}
-use Rattle.wire.proofs.PlaceLaws.{count-cong}
+use Rattle.wire.proofs.BelowLaws.{count-cong}
 use Rattle.wire.proofs.BufferLaws.{rows-cong}
 use Rattle.rules.specs.declared.kinds.Kinds.{Kinds}
 use Rattle.rules.specs.Ladders.{rung, sanction}
 use Rattle.places.specs.Places.{ladders, bookSize, groupAt, kindAt}
 use Rattle.book.specs.Layout.{headOf, bookAs, totalAt}
-use Rattle.book.specs.Raise.{laterYear, nextTotal}
+use Rattle.posting.specs.Raise.{laterYear, nextTotal}
 use Rattle.places.proofs.LadderLaws.{group-low}
 use Rattle.verdict.specs.declared.settle.Settled.{Settled}
 use Rattle.verdict.specs.declared.settle.Settled.the-variants.{Found, Refused}

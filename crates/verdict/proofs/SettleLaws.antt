@@ -9,12 +9,12 @@ use lib.ListN.{length}
 use Rattle.wire.specs.Buffers.{put, putIn, rows}
 use Rattle.wire.proofs.ChoiceLaws.{pick-yes, pick-no, flip-no}
 use Rattle.wire.proofs.AnswerLaws.{refused, done}
-use Rattle.wire.proofs.PlaceLaws.{count-le}
+use Rattle.wire.proofs.BelowLaws.{count-le}
 use Rattle.wire.proofs.BufferLaws.{put-in, put-both, length-put, rows-length}
 use Rattle.book.specs.declared.shape.Shape.{Shape}
 use Rattle.places.specs.Places.{ladders, bookSize}
 use Rattle.book.specs.Layout.{headOf, bookAs}
-use Rattle.book.specs.Raise.{laterYear}
+use Rattle.posting.specs.Raise.{laterYear}
 use Rattle.book.proofs.BookLaws.{head-length}
 use Rattle.verdict.specs.Verdict.{Verdict, offends, foundCount, totalAfter, findings, bookAfter, verdictIn, foundIn}
 use Rattle.verdict.specs.declared.settle.Settled.the-variants.{Found, Refused}

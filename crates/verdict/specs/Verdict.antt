@@ -6,7 +6,7 @@ use mathlib.Core.List.{List, [], _∷_, _++_}
 use lib.Dec.{ltb, eqb}
 use lib.ListN.{length, getD}
 use Rattle.wire.specs.Choice.{pick}
-use Rattle.wire.specs.Places.{count}
+use Rattle.wire.specs.Below.{count}
 use Rattle.wire.specs.Bytes.{le, bytes}
 use Rattle.wire.specs.Buffers.{rows}
 use Rattle.rules.specs.declared.kinds.Kinds.{Kinds}
@@ -14,7 +14,7 @@ use Rattle.rules.specs.Ladders.{rung, sanction}
 use Rattle.book.specs.declared.shape.Shape.{Shape}
 use Rattle.places.specs.Places.{ladders, groupAt, kindAt, familyAt}
 use Rattle.book.specs.Layout.{totalAt, bookAs}
-use Rattle.book.specs.Raise.{laterYear, nextTotal, placeIn, hitAt}
+use Rattle.posting.specs.Raise.{laterYear, nextTotal, placeIn, hitAt}
 
 -- what a day's end goes by
 pub record Verdict : Type 0 where

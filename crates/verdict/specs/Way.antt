@@ -9,7 +9,7 @@ use Rattle.rules.specs.declared.kinds.Kinds.{Kinds}
 use Rattle.rules.specs.Ladders.{rung, sanction}
 use Rattle.places.specs.Places.{groupAt, kindAt}
 use Rattle.book.specs.Layout.{totalAt}
-use Rattle.book.specs.Raise.{nextTotal, hitAt}
+use Rattle.posting.specs.Raise.{nextTotal, hitAt}
 
 -- the bytes of a ladder's total after the day
 unfoldable pub totalBytes : Bool → (places book : List ℕ) → ℕ → ℕ → List ℕ

@@ -1,6 +1,6 @@
 // How many findings a day has.
-use book::raise::place_in;
 use places::ladders_in;
+use posting::raise::place_in;
 use rules::kinds::Kinds;
 ghost use mathlib.Core.Path.{_≡_};
 ghost use Prim.Native.Nat.{_≤_};

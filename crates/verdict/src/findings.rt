@@ -1,11 +1,11 @@
 // The day's findings, 8 bytes each, in the order group, kind, family.
-use book::raise::is_later_year;
-use book::raise::next_total;
-use book::raise::place_in;
 use book::shape::Shape;
 use places::group_at;
 use places::kind_at;
 use places::ladders_in;
+use posting::raise::is_later_year;
+use posting::raise::next_total;
+use posting::raise::place_in;
 use rules::kinds::Kinds;
 use rules::ladder::rung_of;
 use rules::ladder::sanction_of;

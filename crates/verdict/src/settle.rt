@@ -2,10 +2,10 @@
 use crate::count::count_found;
 use crate::findings::list_all;
 use crate::totals::raise_all;
-use book::head::put_head;
-use book::raise::is_later_year;
 use book::shape::Shape;
 use places::book_size;
+use posting::head::put_head;
+use posting::raise::is_later_year;
 use wire::refusal::FINDINGS_SHORT;
 use wire::refusal::NOT_SOUND;
 ghost use mathlib.Core.Path.{_≡_};

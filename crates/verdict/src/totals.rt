@@ -1,5 +1,5 @@
 // Every group's totals raised.
-use book::raise::raise_group;
+use posting::raise::raise_group;
 use rules::kinds::Kinds;
 use rules::kinds::kinds_in;
 ghost use mathlib.Core.Path.{_≡_};

@@ -9,10 +9,10 @@ use native.Mathlib.Omega.{arith}
 use lib.ListN.{length, getD, take, drop, length-append, length-drop}
 use lib.Seq.{getD-take, getD-drop, take-all, take-append-le, drop-append-le, drop-at}
 use Rattle.wire.specs.Choice.{pick}
-use Rattle.wire.specs.Places.{count}
+use Rattle.wire.specs.Below.{count}
 use Rattle.wire.specs.Buffers.{rows}
 use Rattle.wire.proofs.ChoiceLaws.{pick-yes}
-use Rattle.wire.proofs.PlaceLaws.{count-below}
+use Rattle.wire.proofs.BelowLaws.{count-below}
 
 -- m elements that end before the second of two lists
 take-front : (m i : ℕ) (xs ys : List ℕ) → i + m ≤ length xs → take m (drop i (xs ++ ys)) ≡ take m (drop i xs)

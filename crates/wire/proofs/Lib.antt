@@ -1,6 +1,6 @@
 pub mod ChoiceLaws
 pub mod AnswerLaws
-pub mod PlaceLaws
+pub mod BelowLaws
 pub mod ByteLaws
 pub mod BufferLaws
 pub mod TurnLaws

@@ -1,5 +1,5 @@
 pub mod Choice
 pub mod Outcomes
-pub mod Places
+pub mod Below
 pub mod Bytes
 pub mod Buffers

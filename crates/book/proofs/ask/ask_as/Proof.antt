@@ -1,9 +1,9 @@
 use mathlib.Core.Path.{sym, _∙_}
 use native.Mathlib.Omega.{arith}
-use Rattle.wire.proofs.AnswerLaws.{answer-refused, answer-done}
+use Rattle.wire.proofs.AnswerLaws.{answer-refused}
 use Rattle.book.specs.Ask.{askAnswerAs}
 use Rattle.places.proofs.LadderLaws.{ladder-few}
-use Rattle.book.proofs.AskLaws.{asking}
+use Rattle.book.proofs.AskLaws.{asking, asked}
 use borrow.Author.Needs.{needs}
 use Rattle.book.proofs.ask.ask_as.Statement.{statement}
 use Rattle.book.proofs.ask.ask_as.Tie as tie
@@ -38,10 +38,9 @@ rung-of-requires : tie.Need-rung-of-requires
 rung-of-requires c κs = search needs
 
 returns-2 : tie.Need-returns-2
-unfolding askAnswerAs
 returns-2 c =
-    answer-done _ _ _
-    (sym (c .before .before .before .before .ask-fault .ensures) ∙ c .before .before .before .if1 .left) (cc)
+    asked _ _ _ _ _ (c .before .before .before .before .ask-fault .ensures) (c .before .before .before .if1 .left)
+    (c .before .before .ladder-of .ensures) (c .before .get16 .ensures) (c .rung-of .ensures)
 
 pub ask-as-spec : {M : Type 1} → statement M
 ask-as-spec =

@@ -1,4 +1,9 @@
+use mathlib.Core.Path.{ap₂}
+use mathlib.Core.Bool.{_&&_}
+use Prim.Native.Nat.{_+_}
 use native.Mathlib.Omega.{arith}
+use lib.Dec.{leb, ltb}
+use Rattle.wire.specs.Choice.{within}
 use Rattle.rules.proofs.KindLaws.{few, first-low}
 use borrow.Author.Needs.{needs}
 use Rattle.book.specs.Ask.{inRange}
@@ -21,7 +26,12 @@ add-after c =
 
 returns : tie.Need-returns
 unfolding inRange
-returns c = cc
+returns c =
+    let a = c .before .before .args in
+    ap₂
+    (λ f n.
+    within 1 128 (a .group) && (leb f (a .kind) && ltb (a .kind) (f + n)) && leb (a .family) 15)
+    (c .before .first-kind .ensures) (c .kinds-in .ensures)
 
 pub in-range-spec : {M : Type 1} → statement M
 in-range-spec = tie.close (tie.spec first-kind-requires cast-first kinds-in-requires add-after returns)

@@ -1,4 +1,5 @@
-use Prim.Native.Nat.{_-_}
+use mathlib.Core.Path.{ap₂}
+use Prim.Native.Nat.{_+_, _-_, _*_}
 use native.Mathlib.Omega.{arith}
 use Rattle.rules.proofs.KindLaws.{few}
 use borrow.Author.Needs.{needs}
@@ -43,7 +44,10 @@ add-result c =
     omega (arith, f, g .1)
 
 returns : tie.Need-returns
-returns c = cc
+returns c =
+    let a = c .before .before .args in
+    ap₂ (λ n f. ((a .group - 1) * n + (a .kind - f)) * 16 + a .family) (c .before .kinds-in .ensures)
+    (c .first-kind .ensures)
 
 pub ladder-of-spec : {M : Type 1} → statement M
 ladder-of-spec =

@@ -1,4 +1,4 @@
-use Rattle.book.specs.Sound.{headGood}
+use Rattle.book.proofs.SoundLaws.{head-tests}
 use borrow.Author.Needs.{needs}
 use Rattle.book.proofs.sound.head_good.Statement.{statement}
 use Rattle.book.proofs.sound.head_good.Tie as tie
@@ -31,8 +31,13 @@ is-day-requires : tie.Need-is-day-requires
 is-day-requires c κs = search needs
 
 returns : tie.Need-returns
-unfolding headGood
-returns c = cc
+returns c =
+    let zeros = c .before .before in
+    let known = zeros .before .before in
+    let marked = known .before .before in
+    head-tests _ _ (marked .mark-good .ensures) (known .before .get8 .ensures) (known .is-rulebook .ensures)
+    (zeros .before .get16 .ensures) (zeros .get162 .ensures) (c .before .get322 .ensures)
+    (marked .before .get32 .ensures) (c .is-day .ensures)
 
 pub head-good-spec : {M : Type 1} → statement M
 head-good-spec =

@@ -1,5 +1,7 @@
-use mathlib.Core.Path.{sym, _∙_}
+use mathlib.Core.Path.{sym, ap, ap₂, _∙_}
 use Rattle.wire.proofs.ChoiceLaws.{told-yes, told-no}
+use Rattle.calendar.specs.Dates.{dayNumber}
+use Rattle.book.specs.Sound.{totalsGood}
 use Rattle.book.proofs.SoundLaws.{wrong-length, wrong-head, right-head}
 use borrow.Author.Needs.{needs}
 use Rattle.book.proofs.sound.is_sound_as.Statement.{statement}
@@ -34,8 +36,12 @@ totals-good-requires c κs = search needs
 returns-3 : tie.Need-returns-3
 returns-3 c =
     let tested = c .before .before .before .before in
+    let a = tested .before .before .before .before .before .args in
     right-head _ _ _ (tested .before .before .if1 .left ∙ tested .before .before .before .book-size .ensures)
-    (told-yes _ _ (tested .before .head-good .ensures) (tested .if2 .left)) (cc)
+    (told-yes _ _ (tested .before .head-good .ensures) (tested .if2 .left))
+    (c .totals-good .ensures
+    ∙ ap₂ (totalsGood (a .shape .kinds) (a .b .now)) (c .before .before .before .get8 .ensures)
+    (c .before .day-number .ensures ∙ ap dayNumber (c .before .before .get32 .ensures)))
 
 pub is-sound-as-spec : {M : Type 1} → statement M
 is-sound-as-spec =

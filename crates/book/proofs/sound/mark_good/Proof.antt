@@ -1,4 +1,7 @@
+use mathlib.Core.Path.{ap, ap₂}
+use mathlib.Core.Bool.{_&&_}
 use borrow.Author.Needs.{needs}
+use lib.Dec.{eqb}
 use Rattle.book.proofs.sound.mark_good.Statement.{statement}
 use Rattle.book.proofs.sound.mark_good.Tie as tie
 
@@ -18,7 +21,10 @@ get8-requires-3 : tie.Need-get8-requires-3
 get8-requires-3 c κs = search needs
 
 returns : tie.Need-returns
-returns c = cc
+returns c =
+    ap₂ (λ x y. x && y)
+    (ap₂ (λ x y. eqb x 0x41 && eqb y 0x58) (c .before .before .get8 .ensures) (c .before .get82 .ensures))
+    (ap (λ x. eqb x (c .before .before .before .before .args .letter)) (c .get83 .ensures))
 
 pub mark-good-spec : {M : Type 1} → statement M
 mark-good-spec =

@@ -4,8 +4,8 @@ use Prim.Native.Nat.{_-_, _≤_}
 use native.Mathlib.Omega.{arith}
 use borrow.Author.Needs.{needs}
 use lib.Dec.{leb}
-use Rattle.wire.specs.Places.{every}
-use Rattle.wire.proofs.PlaceLaws.{every-none, every-next}
+use Rattle.wire.specs.Below.{every}
+use Rattle.wire.proofs.BelowLaws.{every-none, every-next}
 use Rattle.rules.proofs.KindLaws.{few}
 use Rattle.places.specs.Places.{ladders}
 use Rattle.book.specs.Layout.{totalAt}
@@ -58,7 +58,8 @@ loop-again c =
 
 returns : tie.Need-returns Inv-loop μ-loop
 unfolding totalsGood
-returns c = let e : c .before .loop .l ≡ ladders (c .before .before .before .before .args .kinds) = omega arith in cc
+returns c = let e : c .before .loop .l ≡ ladders (c .before .before .before .before .args .kinds) = omega arith in
+    rw (← e) (c .before .loop .inv .1)
 
 pub totals-good-spec : {M : Type 1} → statement M
 totals-good-spec =

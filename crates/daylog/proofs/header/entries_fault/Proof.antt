@@ -1,8 +1,8 @@
 use mathlib.Core.Path.{_≡_, _∙_, ap, ap₂}
 use Prim.Native.Nat.{_+_, _*_}
 use Rattle.wire.proofs.PartLaws.{part-of, part-rest}
-use Rattle.daylog.specs.Contracts.{contractsGood}
-use Rattle.daylog.specs.Accounts.{accountsGood}
+use Rattle.tables.specs.Contracts.{contractsGood}
+use Rattle.tables.specs.Accounts.{accountsGood}
 use Rattle.daylog.specs.Header.{textOf, entriesFault, contractsPart, accountsPart}
 use Rattle.wire.proofs.ChoiceLaws.{chain}
 use borrow.Author.Needs.{needs}

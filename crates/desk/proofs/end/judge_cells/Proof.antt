@@ -1,4 +1,4 @@
-use Rattle.desk.proofs.HandedLaws.{lent-short}
+use Rattle.daylog.proofs.LentTables.{lent-short}
 use Rattle.desk.specs.End.{cellsGood, cellsFault}
 use Rattle.wire.proofs.PartLaws.{part-of}
 use Rattle.wire.proofs.ChoiceLaws.{pick-yes, pick-no, flip-yes, flip-no, told-yes, told-no}

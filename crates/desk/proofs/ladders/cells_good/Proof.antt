@@ -1,7 +1,7 @@
 use Rattle.desk.specs.End.{cellsGood}
 use Rattle.places.specs.Places.{cells}
-use Rattle.wire.proofs.PlaceLaws.{every-none, every-next}
-use Rattle.wire.specs.Places.{every}
+use Rattle.wire.proofs.BelowLaws.{every-none, every-next}
+use Rattle.wire.specs.Below.{every}
 use lib.ListN.{getD}
 use lib.Dec.{leb}
 use mathlib.Core.Bool.{_&&_}

@@ -1,5 +1,5 @@
 use Rattle.desk.specs.Way.{familyIn, familiesIn}
-use Rattle.daylog.specs.Entries.{entries}
+use Rattle.tables.specs.Entries.{entries}
 use Rattle.rules.specs.Ladders.{family}
 use Rattle.wire.proofs.TurnLaws.{byte-turn, bytes-all}
 use Rattle.wire.proofs.BufferLaws.{no-rows}

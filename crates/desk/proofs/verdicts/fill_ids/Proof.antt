@@ -1,6 +1,6 @@
 use Rattle.desk.specs.Way.{idsIn}
-use Rattle.daylog.specs.Contracts.{contractIn}
-use Rattle.daylog.specs.Entries.{entries}
+use Rattle.tables.specs.Contracts.{contractIn}
+use Rattle.tables.specs.Entries.{entries}
 use Rattle.wire.proofs.TurnLaws.{pair-turn, rows-all}
 use Rattle.wire.proofs.BufferLaws.{no-rows}
 use Rattle.wire.proofs.ByteLaws.{bytes-length}

@@ -8,8 +8,8 @@ use Rattle.wire.specs.Choice.{pick}
 use Rattle.wire.specs.Buffers.{put, rows}
 use Rattle.wire.proofs.BufferLaws.{no-rows}
 use Rattle.wire.proofs.TurnLaws.{byte-turn, bytes-all}
-use Rattle.daylog.specs.Entries.{entries}
-use Rattle.daylog.specs.Accounts.{accountAt, hasMember}
+use Rattle.tables.specs.Entries.{entries}
+use Rattle.tables.specs.Accounts.{accountAt, hasMember}
 use Rattle.desk.specs.Way.{membersIn}
 use Rattle.desk.proofs.verdicts.fill_members.Statement.{statement}
 use Rattle.desk.proofs.verdicts.fill_members.Tie as tie

@@ -5,9 +5,9 @@ use lib.Dec.{ltb}
 use mathlib.Core.Path.{_≡_, sym, _∙_, ap, ap₂}
 use Prim.Native.Nat.{_+_, _-_, _≤_}
 use native.Mathlib.Omega.{arith}
-use Rattle.wire.specs.Places.{count}
-use Rattle.wire.proofs.PlaceLaws.{count-none, count-more}
-use Rattle.book.specs.Raise.{hitAt}
+use Rattle.wire.specs.Below.{count}
+use Rattle.wire.proofs.BelowLaws.{count-none, count-more}
+use Rattle.posting.specs.Raise.{hitAt}
 use Rattle.verdict.specs.Verdict.{foundIn}
 use borrow.Author.Needs.{needs}
 use Rattle.verdict.proofs.count.count_found.Statement.{statement}

@@ -1,11 +1,11 @@
 use Rattle.rules.proofs.KindLaws.{few}
-use Rattle.verdict.proofs.FoundLaws.{count-room, found-turn}
+use Rattle.verdict.proofs.FoundLaws.{count-room, found-more, found-turn}
 use Rattle.verdict.specs.Verdict.{verdictIn, offends, foundCount, foundAt, findings}
 use Rattle.places.specs.Places.{ladders}
 use Rattle.wire.proofs.BufferLaws.{no-rows}
-use Rattle.wire.proofs.PlaceLaws.{count-none, count-more}
+use Rattle.wire.proofs.BelowLaws.{count-none}
 use Rattle.wire.specs.Buffers.{put, rows}
-use Rattle.wire.specs.Places.{count}
+use Rattle.wire.specs.Below.{count}
 use lib.ListN.{length}
 use native.Mathlib.Omega.{arith}
 use mathlib.Core.Path.{_≡_, refl, sym, _∙_}
@@ -47,7 +47,7 @@ loop-again c =
     let l = c .before .before .before .before .before .loop in (
       search needs,
       c .before .before .list-one .kept .0 ∙ l .inv .1,
-      rw count-more (cc),
+      found-more _ (l .l) (l .inv .2) (c .before .before .list-one .ensures .0),
       found-turn _ (s .date) (s .book .now) (s .out .now) _ _ (l .n) (l .l) (l .inv .2) (l .inv .3) (c .before .before .list-one .ensures .1),
     )
 

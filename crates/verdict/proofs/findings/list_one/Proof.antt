@@ -1,9 +1,7 @@
-use Rattle.verdict.proofs.FoundLaws.{more-yes, more-no, put-yes, put-no, room-yes}
-use Rattle.verdict.specs.Way.{sanctionFor}
-use Rattle.verdict.specs.Verdict.{offends, verdictIn, foundAt, totalAfter, sanctionAt}
+use Rattle.verdict.proofs.FoundLaws.{more-yes, more-no, room-yes}
+use Rattle.verdict.proofs.FoundLaws.{place-hit, place-none, finding-here, finding-none}
 use Rattle.rules.proofs.KindLaws.{few}
 use native.Mathlib.Omega.{arith}
-use borrow.Author.Tests.{lt-ltb, le-ltb}
 use borrow.Author.Needs.{needs}
 use Rattle.verdict.proofs.findings.list_one.Statement.{statement}
 use Rattle.verdict.proofs.findings.list_one.Tie as tie
@@ -39,8 +37,11 @@ get16-requires-2 : tie.Need-get16-requires-2
 get16-requires-2 c κs = search needs
 
 put-finding-requires : tie.Need-put-finding-requires
-unfolding offends verdictIn
-put-finding-requires c κs = (room-yes _ _ _ (rw (← c .before .before .before .before .before .before .before .place-in .ensures) (lt-ltb _ _ (c .before .before .before .before .before .before .if1 .taken))) (c .before .before .before .before .before .before .before .before .before .before .before .before .before .pre .1), search needs)
+put-finding-requires c κs =
+    let tested = c .before .before .before .before .before .before in
+    let a = tested .before .before .before .before .before .before .before in
+    let hit = place-hit _ _ _ _ _ _ (tested .before .place-in .ensures) (tested .if1 .taken) in
+    (room-yes _ _ _ hit (a .pre .1), a .pre .0)
 
 add-result : tie.Need-add-result
 add-result c = search needs
@@ -49,16 +50,22 @@ same-length : tie.Need-same-length
 same-length c = search needs
 
 returns : tie.Need-returns
-unfolding offends verdictIn foundAt totalAfter sanctionAt sanctionFor
 returns c =
-    let hit = lt-ltb _ _ (c .before .before .before .before .before .before .before .before .before .if1 .taken) in
-    (more-yes _ _ (rw (← c .before .before .before .before .before .before .before .before .before .before .place-in .ensures) hit), put-yes _ _ _ _ _ _ (rw (← c .before .before .before .before .before .before .before .before .before .before .place-in .ensures) hit) (c .before .before .put-finding .ensures) (cc))
+    let given = c .before .before .before in
+    let read = given .before .before .before .before in
+    let is = read .before .before .before .place-in .ensures in
+    let hit = read .before .before .if1 .taken in (
+      more-yes _ _ (place-hit _ _ _ _ _ _ is hit),
+      finding-here _ _ _ _ _ _ _ _ _ _ is hit (read .before .is-later-year .ensures) (read .get16 .ensures)
+          (given .before .before .before .next-total .ensures) (given .before .before .sanction-for .ensures)
+          (given .get162 .ensures) (c .before .before .put-finding .ensures),
+    )
 
 returns-2 : tie.Need-returns-2
-unfolding offends verdictIn foundAt
-returns-2 c =
-    let none = le-ltb _ _ (c .if1 .left) in
-    (more-no _ _ (rw (← c .before .place-in .ensures) none), put-no _ _ _ _ (rw (← c .before .place-in .ensures) none))
+returns-2 c = (
+  more-no _ _ (place-none _ _ _ _ _ _ (c .before .place-in .ensures) (c .if1 .left)),
+  finding-none _ _ _ _ _ _ _ _ _ _ (c .before .place-in .ensures) (c .if1 .left),
+)
 
 pub list-one-spec : {M : Type 1} → statement M
 list-one-spec =

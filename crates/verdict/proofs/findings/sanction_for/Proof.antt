@@ -1,4 +1,4 @@
-use Rattle.verdict.specs.Way.{sanctionFor}
+use Rattle.verdict.proofs.FoundLaws.{sanctioned}
 use borrow.Author.Needs.{needs}
 use Rattle.verdict.proofs.findings.sanction_for.Statement.{statement}
 use Rattle.verdict.proofs.findings.sanction_for.Tie as tie
@@ -22,8 +22,10 @@ sanction-of-requires : tie.Need-sanction-of-requires
 sanction-of-requires c κs = search needs
 
 returns : tie.Need-returns
-unfolding sanctionFor
-returns c = cc
+returns c =
+    sanctioned _ _ _ _ _ (c .before .before .before .before .group-at .ensures)
+    (c .before .before .before .get8 .ensures) (c .before .before .kind-at .ensures)
+    (c .before .rung-of .ensures) (c .sanction-of .ensures)
 
 pub sanction-for-spec : {M : Type 1} → statement M
 sanction-for-spec =

@@ -1,5 +1,5 @@
 use Rattle.places.specs.Places.{ladders}
-use Rattle.verdict.proofs.RaiseLaws.{groupBytes, part-fits, parts-fit, group-turn, raised-length, all-groups}
+use Rattle.verdict.proofs.RaiseLaws.{groupBytes, part-fits, next-fits, group-again, all-groups}
 use Rattle.rules.proofs.KindLaws.{few}
 use Rattle.wire.proofs.BufferLaws.{no-rows}
 use Rattle.wire.specs.Buffers.{put, rows}
@@ -27,34 +27,52 @@ loop-holds : tie.Need-loop-holds Inv-loop μ-loop
 loop-holds c = (search needs, search needs, no-rows _ _ _)
 
 mul-at : tie.Need-mul-at Inv-loop μ-loop
-mul-at c = let f = part-fits (c .before .before .before .before .before .args .kinds) _ (c .before .loop .g) (c .before .before .kinds-in .ensures) (omega arith) in omega arith
+mul-at c =
+    let f = part-fits _ _ _ (c .before .before .kinds-in .ensures) (c .loop-test .taken) in
+    omega arith
 
 mul-at-2 : tie.Need-mul-at-2 Inv-loop μ-loop
-mul-at-2 c = let f = part-fits (c .before .before .before .before .before .args .kinds) _ (c .before .loop .g) (c .before .before .kinds-in .ensures) (omega arith) in omega arith
+mul-at-2 c =
+    let f = part-fits _ _ _ (c .before .before .kinds-in .ensures) (c .loop-test .taken) in
+    omega arith
 
 add-at : tie.Need-add-at Inv-loop μ-loop
-add-at c = let f = part-fits (c .before .before .before .before .before .args .kinds) _ (c .before .loop .g) (c .before .before .kinds-in .ensures) (omega arith) in omega arith
+add-at c =
+    let f = part-fits _ _ _ (c .before .before .kinds-in .ensures) (c .loop-test .taken) in
+    omega arith
 
 mul-from : tie.Need-mul-from Inv-loop μ-loop
-mul-from c = let f = part-fits (c .before .before .before .before .before .args .kinds) _ (c .before .loop .g) (c .before .before .kinds-in .ensures) (omega arith) in omega arith
+mul-from c =
+    let f = part-fits _ _ _ (c .before .before .kinds-in .ensures) (c .loop-test .taken) in
+    omega arith
 
 cast-from : tie.Need-cast-from Inv-loop μ-loop
-cast-from c = let f = part-fits (c .before .before .before .before .before .args .kinds) _ (c .before .loop .g) (c .before .before .kinds-in .ensures) (omega arith) in omega arith
+cast-from c =
+    let f = part-fits _ _ _ (c .before .before .kinds-in .ensures) (c .loop-test .taken) in
+    omega arith
 
 mul-raise-group : tie.Need-mul-raise-group Inv-loop μ-loop
-mul-raise-group c = let f = part-fits (c .before .before .before .before .before .args .kinds) _ (c .before .loop .g) (c .before .before .kinds-in .ensures) (omega arith) in omega arith
+mul-raise-group c =
+    let f = part-fits _ _ _ (c .before .before .kinds-in .ensures) (c .loop-test .taken) in
+    omega arith
 
 add-raise-group : tie.Need-add-raise-group Inv-loop μ-loop
-add-raise-group c = let f = part-fits (c .before .before .before .before .before .args .kinds) _ (c .before .loop .g) (c .before .before .kinds-in .ensures) (omega arith) in omega arith
+add-raise-group c =
+    let f = part-fits _ _ _ (c .before .before .kinds-in .ensures) (c .loop-test .taken) in
+    omega arith
 
 sub-raise-group : tie.Need-sub-raise-group Inv-loop μ-loop
-sub-raise-group c = let f = part-fits (c .before .before .before .before .before .args .kinds) _ (c .before .loop .g) (c .before .before .kinds-in .ensures) (omega arith) in omega arith
+sub-raise-group c =
+    let f = part-fits _ _ _ (c .before .before .kinds-in .ensures) (c .loop-test .taken) in
+    omega arith
 
 part-raise-group-start : tie.Need-part-raise-group-start Inv-loop μ-loop
 part-raise-group-start c = search needs
 
 part-raise-group-end : tie.Need-part-raise-group-end Inv-loop μ-loop
-part-raise-group-end c = let f = part-fits (c .before .before .before .before .before .args .kinds) _ (c .before .loop .g) (c .before .before .kinds-in .ensures) (omega arith) in search needs
+part-raise-group-end c =
+    let f = part-fits _ _ _ (c .before .before .kinds-in .ensures) (c .loop-test .taken) in
+    search needs
 
 raise-group-requires : tie.Need-raise-group-requires Inv-loop μ-loop
 raise-group-requires c κs = search needs
@@ -67,17 +85,19 @@ loop-less c = search needs
 
 loop-again : tie.Need-loop-again Inv-loop μ-loop
 loop-again c =
-    let s = c .before .before .before .before .before .before .before .before .before in
-    let l = c .before .before .before .before .before .loop in
-    let n = c .before .before .before .before .before .before .kinds-in .ensures in
-    let f = part-fits (s .args .kinds) _ (l .g) n (omega arith) in
-    let turn = group-turn _ (s .args .later) (s .args .places .now) (s .args .book .now) (s .args .contracts) (l .book) (l .g)
-    (omega arith) (l .inv .1) (l .inv .2) _ (c .before .before .raise-group .ensures) in (
+    let tested = c .before .before .before .before in
+    let l = tested .before .loop in
+    let s = tested .before .before .before .before .before in
+    let a = s .args in
+    let n = tested .before .before .kinds-in .ensures in
+    let f = next-fits (a .kinds) _ (l .g) _ n (tested .loop-test .taken) (s .pre) in
+    let again =
+    group-again _ (a .later) (a .places .now) (a .book .now) (a .contracts) (l .book) (l .g) (f .0)
+    (l .inv .1) (l .inv .2) _
+    (c .before .before .raise-group .ensures) (f .1) in (
       search needs,
-      ap length turn
-          ∙ raised-length _ (s .args .later) (s .args .places .now) (s .args .book .now) (s .args .contracts) (l .g + 1)
-          (omega (arith, parts-fit (s .args .kinds) _ (l .g + 1) n (omega arith))),
-      turn,
+      again .0,
+      again .1,
     )
 
 same-length : tie.Need-same-length Inv-loop μ-loop

@@ -1,0 +1,4 @@
+pub mod Counting
+pub mod Weigh
+pub mod Cells
+pub mod Way

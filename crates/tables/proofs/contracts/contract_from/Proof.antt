@@ -1,0 +1,21 @@
+use mathlib.Core.Path.{refl}
+use Rattle.tables.specs.Way.{contractFrom}
+use borrow.Author.Needs.{needs}
+use Rattle.tables.proofs.contracts.contract_from.Statement.{statement}
+use Rattle.tables.proofs.contracts.contract_from.Tie as tie
+
+cast-t4 : tie.Need-cast-t4
+cast-t4 c = search needs
+
+cast-t7 : tie.Need-cast-t7
+cast-t7 c = search needs
+
+cast-t9 : tie.Need-cast-t9
+cast-t9 c = search needs
+
+returns : tie.Need-returns
+unfolding contractFrom
+returns c = refl
+
+pub contract-from-spec : {M : Type 1} → statement M
+contract-from-spec = tie.close (tie.spec cast-t4 cast-t7 cast-t9 returns)

@@ -1,0 +1,5 @@
+pub mod Entries
+pub mod Accounts
+pub mod Contracts
+pub mod Way
+pub mod Tables

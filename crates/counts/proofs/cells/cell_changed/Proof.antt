@@ -1,4 +1,9 @@
-use Rattle.counts.specs.Cells.{cellChanged}
+use mathlib.Core.Path.{_≡_, _∙_, ap}
+use Prim.Native.Nat.{ℕ}
+use mathlib.Core.Bool.{_&&_}
+use lib.Dec.{ltb}
+use lib.ListN.{getD}
+use Rattle.counts.specs.Cells.{cellFor, cellChanged}
 use borrow.Author.Needs.{needs}
 use Rattle.counts.proofs.cells.cell_changed.Statement.{statement}
 use Rattle.counts.proofs.cells.cell_changed.Tie as tie
@@ -14,7 +19,12 @@ count-at-requires c κs = search needs
 
 returns : tie.Need-returns
 unfolding cellChanged
-returns c = cc
+returns c =
+    let d = c .before .before in
+    let a = d .before .before .args in
+    let n : c .count-at .result ≡ getD (a .c .now) (cellFor (a .kinds) (a .p) (a .kind)) 0 =
+    c .count-at .ensures ∙ ap (λ (k : ℕ). getD (a .c .now) k 0) (c .before .cell-for .ensures) in
+    λ i. d .counts-as .ensures i && ltb (a .taken) (n i)
 
 pub cell-changed-spec : {M : Type 1} → statement M
 cell-changed-spec =

@@ -1,3 +1,4 @@
+use mathlib.Core.Bool.{_||_}
 use Rattle.counts.specs.Cells.{cellsChanged}
 use borrow.Author.Needs.{needs}
 use Rattle.counts.proofs.cells.cells_changed.Statement.{statement}
@@ -14,7 +15,8 @@ cell-changed-requires-3 c κs = search needs
 
 returns : tie.Need-returns
 unfolding cellsChanged
-returns c = cc
+returns c = λ i.
+    c .before .before .cell-changed .ensures i || c .before .cell-changed2 .ensures i || c .cell-changed3 .ensures i
 
 pub cells-changed-spec : {M : Type 1} → statement M
 cells-changed-spec =

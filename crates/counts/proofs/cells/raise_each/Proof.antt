@@ -1,4 +1,5 @@
-use Rattle.counts.specs.Cells.{raised}
+use mathlib.Core.Path.{_∙_, ap}
+use Rattle.counts.specs.Cells.{raisedFor, raised}
 use Rattle.counts.proofs.CellLaws.{ready-1, ready-2, ready-3}
 use borrow.Author.Needs.{needs}
 use Rattle.counts.proofs.cells.raise_each.Statement.{statement}
@@ -27,7 +28,13 @@ same-length c = search needs
 
 returns : tie.Need-returns
 unfolding raised
-returns c = cc
+returns c =
+    let d = c .before .before in
+    let e = d .before .before .before .before in
+    let f = e .before .before .before .before in
+    let a = f .before .before .before .args in
+    d .raise-for3 .ensures ∙ ap (raisedFor (a .kinds) (a .p) 3)
+    (e .raise-for2 .ensures ∙ ap (raisedFor (a .kinds) (a .p) 2) (f .raise-for .ensures))
 
 pub raise-each-spec : {M : Type 1} → statement M
 raise-each-spec =

@@ -1,8 +1,8 @@
-use mathlib.Core.Path.{sym, _∙_}
+use mathlib.Core.Path.{sym, _∙_, ap₂}
 use Prim.Native.Nat.{_≤_}
 use native.Mathlib.Omega.{arith}
 use lib.ListN.{getD}
-use Rattle.counts.specs.Cells.{cellFor, raisedFor}
+use Rattle.counts.specs.Cells.{cellFor, bumped, raisedFor}
 use Rattle.counts.specs.Way.{Small}
 use borrow.Author.Needs.{needs}
 use Rattle.counts.proofs.cells.raise_for.Statement.{statement}
@@ -27,7 +27,12 @@ same-length c = search needs
 
 returns : tie.Need-returns
 unfolding raisedFor
-returns c = cc
+returns c =
+    let b = c .before .before in
+    let d = b .before .before .before in
+    b .bump .ensures
+    ∙ ap₂ (λ raise cell. bumped raise cell (d .before .before .args .c .now)) (d .counts-as .ensures)
+    (b .before .before .cell-for .ensures)
 
 pub raise-for-spec : {M : Type 1} → statement M
 raise-for-spec =

@@ -21,9 +21,17 @@ get16-requires-3 c κs = search needs
 get16-requires-4 : tie.Need-get16-requires-4
 get16-requires-4 c κs = search needs
 
+-- the path along the callees' equations written out: `cc` searches every record for a second or two
 returns : tie.Need-returns
 unfolding headerOf
-returns c = cc
+returns c = λ i. record {
+  rulebook = c .before .before .before .before .before .get8 .ensures i;
+  version = c .before .before .before .before .get16 .ensures i;
+  date = c .before .before .before .get32 .ensures i;
+  contracts = c .before .before .get162 .ensures i;
+  accounts = c .before .get163 .ensures i;
+  spare = c .get164 .ensures i;
+}
 
 pub header-of-spec : {M : Type 1} → statement M
 header-of-spec =

@@ -1,3 +1,5 @@
+use mathlib.Core.Bool.{_&&_}
+use lib.Dec.{eqb}
 use Rattle.daylog.specs.Records.{endGood}
 use borrow.Author.Needs.{needs}
 use Rattle.daylog.proofs.record.end_good.Statement.{statement}
@@ -23,7 +25,11 @@ get32-requires-3 c κs = search needs
 
 returns : tie.Need-returns
 unfolding endGood
-returns c = cc
+returns c =
+    let d = c .before .before .before in
+    λ i. eqb (d .before .before .get8 .ensures i) 3 && eqb (d .before .get82 .ensures i) 0
+    && eqb (d .get16 .ensures i) 0 && eqb (c .before .before .get32 .ensures i) 0
+    && eqb (c .before .get322 .ensures i) 0 && eqb (c .get323 .ensures i) 0
 
 pub end-good-spec : {M : Type 1} → statement M
 end-good-spec =

@@ -1,3 +1,4 @@
+use mathlib.Core.Bool.{_&&_}
 use borrow.Author.Needs.{needs}
 use Rattle.daylog.proofs.record.order_good.Statement.{statement}
 use Rattle.daylog.proofs.record.order_good.Tie as tie
@@ -9,7 +10,7 @@ has-purpose-requires : tie.Need-has-purpose-requires
 has-purpose-requires c κs = search needs
 
 returns : tie.Need-returns
-returns c = cc
+returns c = λ i. c .before .has-instruction .ensures i && c .has-purpose .ensures i
 
 pub order-good-spec : {M : Type 1} → statement M
 order-good-spec = tie.close (tie.spec has-instruction-requires has-purpose-requires returns)

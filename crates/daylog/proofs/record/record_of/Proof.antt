@@ -1,3 +1,4 @@
+use Rattle.rules.specs.Measure.{lots}
 use Rattle.daylog.specs.Records.{recordOf}
 use borrow.Author.Needs.{needs}
 use Rattle.daylog.proofs.record.record_of.Statement.{statement}
@@ -35,7 +36,20 @@ get8-requires-6 c κs = search needs
 
 returns : tie.Need-returns
 unfolding recordOf
-returns c = cc
+returns c =
+    let d = c .before .before .before .before .before in
+    λ i. record {
+      sort = d .before .before .before .before .get8 .ensures i;
+      spare = d .before .before .before .get82 .ensures i;
+      contract = d .before .before .get16 .ensures i;
+      first = d .before .get32 .ensures i;
+      second = d .get322 .ensures i;
+      lots = lots (c .before .before .before .before .get323 .ensures i);
+      instruction = c .before .before .before .get83 .ensures i;
+      purpose = c .before .before .get84 .ensures i;
+      instruction2 = c .before .get85 .ensures i;
+      purpose2 = c .get86 .ensures i;
+    }
 
 pub record-of-spec : {M : Type 1} → statement M
 record-of-spec =

@@ -1,6 +1,16 @@
+use mathlib.Core.Path.{refl}
 use Rattle.desk.proofs.EndLaws.{lent-entries}
 use Rattle.wire.proofs.PartLaws.{part-of, part-rest}
-use Prim.Native.Nat.{_+_, _*_}
+use Prim.Native.Nat.{ℕ, _+_, _-_, _*_}
+use mathlib.Core.List.{List}
+use lib.ListN.{length, take, drop}
+use Rattle.book.specs.Shape.{dayShape}
+use Rattle.verdict.specs.declared.settle.Settled.{Settled}
+use Rattle.verdict.specs.Verdict.{verdictIn}
+use Rattle.verdict.specs.Settle.{SettleGives}
+use Rattle.daylog.specs.declared.header.Header.{Header}
+use Rattle.daylog.specs.Header.{contractsPart, accountsPart}
+use Rattle.desk.specs.Way.{idsIn, membersIn}
 use borrow.Author.Needs.{needs}
 use Rattle.desk.proofs.verdicts.settle_day.Statement.{statement}
 use Rattle.desk.proofs.verdicts.settle_day.Tie as tie
@@ -48,7 +58,10 @@ slice-aggregate-settle-with : tie.Need-slice-aggregate-settle-with
 slice-aggregate-settle-with c = search needs
 
 settle-with-requires : tie.Need-settle-with-requires
-settle-with-requires c κs = let e = lent-entries (c .before .before .before .before .before .before .before .before .before .before .before .args .h) (c .before .before .before .before .before .before .before .before .before .before .before .args .log .now) (c .before .before .before .before .before .before .before .before .before .before .before .pre .whole) in (search needs, search needs)
+settle-with-requires c κs =
+    let s = c .before .before .before .before .before .before .before .before .before .before .before in
+    let e = lent-entries (s .args .h) (s .args .log .now) (s .pre .whole) in
+    (search needs, refl)
 
 same-length : tie.Need-same-length
 same-length c = search needs
@@ -56,10 +69,22 @@ same-length c = search needs
 same-length-2 : tie.Need-same-length-2
 same-length-2 c = search needs
 
+-- what the parts that are lent give is what the tables give: over plain values, since `rw` at a call is dear
+on-tables : (h : Header) (log places book out : List ℕ) {a : Settled} {book′ out′ : List ℕ}
+    → SettleGives (verdictIn (dayShape (h .rulebook)) (h .rulebook) places
+    (idsIn (take (16 + 8 * h .contracts - 16) (drop 16 log)))
+    (membersIn (take (length log - (16 + 8 * h .contracts)) (drop (16 + 8 * h .contracts) log))))
+    (h .date) book out a book′ out′
+    → SettleGives (verdictIn (dayShape (h .rulebook)) (h .rulebook) places (idsIn (contractsPart h log))
+    (membersIn (accountsPart h log))) (h .date) book out a book′ out′
+on-tables h log places book out e =
+    rw (part-of log 16 (8 * h .contracts), part-rest log (16 + 8 * h .contracts)) at e
+
 returns : tie.Need-returns
 returns c =
-    let a = c .before .before .before .before .before .before .before .before .before .before .before .before .before .before .before .before .before .before .args in
-    rw (part-of (a .log .now) 16 (8 * a .h .contracts), part-rest (a .log .now) (16 + 8 * a .h .contracts)) at (c .before .before .before .before .before .before .settle-with .ensures)
+    let d = c .before .before .before .before .before .before in
+    let a = d .before .before .before .before .before .before .before .before .before .before .before .before .args in
+    on-tables (a .h) (a .log .now) (a .places .now) (a .book .now) (a .out .now) (d .settle-with .ensures)
 
 pub settle-day-spec : {M : Type 1} → statement M
 settle-day-spec =

@@ -1,3 +1,6 @@
+use mathlib.Core.Bool.{_&&_, _||_, not}
+use lib.Dec.{eqb}
+use Rattle.rules.specs.Codes.{isKind}
 use Rattle.rules.specs.Exemption.{known, exempt}
 use borrow.Author.Needs.{needs}
 use Rattle.rules.proofs.exemption.is_exempt.Statement.{statement}
@@ -20,7 +23,13 @@ is-spared2-requires c κs = search needs
 
 returns : tie.Need-returns
 unfolding known exempt
-returns c = cc
+returns c =
+    let d = c .before .before .before .before in
+    let a = d .before .before .before .args in
+    λ i. not (d .before .before .has-type .ensures i && isKind (a .kind) && d .before .has-instruction .ensures i
+    && d .has-purpose .ensures i)
+    || (eqb (a .text .rulebook) 1 && c .before .before .is-spared1 .ensures i)
+    || (eqb (a .text .rulebook) 2 && c .is-spared2 .ensures i)
 
 pub is-exempt-spec : {M : Type 1} → statement M
 is-exempt-spec =

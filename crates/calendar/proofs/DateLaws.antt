@@ -51,7 +51,8 @@ days-up : (y m n : ℕ) → m ≤ n → daysIn y m ≤ daysIn y n
 unfolding daysIn
 days-up y m zero h = let e : m ≡ 0 = omega arith in rw e zero-le
 days-up y m (suc n) h =
-    ⊎-elim (λ (e : m ≡ suc n). rw e (omega arith)) (λ (l : m < suc n). omega (arith, days-up y m n (le-of-suc-le-suc l)))
+    ⊎-elim (λ (e : m ≡ suc n). rw e (omega arith))
+    (λ (l : m < suc n). omega (arith, days-up y m n (le-of-suc-le-suc l)))
     (eq-or-lt-of-le h)
 
 -- a year has at most 366 days
@@ -84,21 +85,36 @@ number-most date = go (realDay date) refl
     go : (t : Bool) → realDay date ≡ t → dayNumber date ≤ 366
     go true e =
         let r = real date e in
-        omega (arith, number-of date e, in-month date r, days-up (year date) (month date) 12 (r .last-month), year-most (year date))
+        omega (
+          arith,
+          number-of date e,
+          in-month date r,
+          days-up (year date) (month date) 12
+              (r .last-month),
+          year-most (year date),
+        )
     go false e = rw (number-none date e) zero-le
 
 -- in one year the day number rises with the date
-pub number-rises : (a b : ℕ) → realDay a ≡ true → realDay b ≡ true → year a ≡ year b → a < b → dayNumber a < dayNumber b
+pub number-rises : (a b : ℕ) → realDay a ≡ true → realDay b ≡ true → year a ≡ year b → a < b
+    → dayNumber a < dayNumber b
 number-rises a b ea eb y h = rw (number-of a ea, number-of b eb, y) (go (eqb (month a) (month b)) refl)
   where
     last : day a ≤ monthDays (year b) (month a)
     last = rw y at (real a ea .last-day)
 
-    go : (t : Bool) → eqb (month a) (month b) ≡ t → daysIn (year b) (month a - 1) + day a < daysIn (year b) (month b - 1) + day b
+    go : (t : Bool) → eqb (month a) (month b) ≡ t → daysIn (year b) (month a - 1) + day a < daysIn (year b)
+        (month b - 1) + day b
     go true e = let m : month a ≡ month b = eqb-true _ _ e in rw m (omega arith)
     go false e =
         let n : month a ≡ month b → ⊥ = eqb-false _ _ e in
-        omega (arith, rw y at (in-month a (real a ea)), days-up (year b) (month a) (month b - 1) (omega arith), real b eb .first-day)
+        omega (
+          arith,
+          rw y at (in-month a (real a ea)),
+          days-up (year b) (month a) (month b - 1)
+              (omega arith),
+          real b eb .first-day,
+        )
 
 -- a later date is in the same or a later year
 pub year-rises : (a b : ℕ) → a ≤ b → year a ≤ year b

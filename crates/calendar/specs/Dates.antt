@@ -27,7 +27,8 @@ monthDays y m =
 -- a real day of the years 2000 to 2099
 unfoldable pub realDay : ℕ → Bool
 realDay date =
-    within 2000 2099 (year date) && within 1 12 (month date) && within 1 (monthDays (year date) (month date)) (day date)
+    within 2000 2099 (year date) && within 1 12 (month date)
+    && within 1 (monthDays (year date) (month date)) (day date)
 
 -- the days of the first m months of year y
 unfoldable pub daysIn : ℕ → ℕ → ℕ

@@ -1,5 +1,5 @@
--- No second answer, and no second buffer, fits the contract of a public function: `Post` is what its own `ensures` says,
--- `a` its arguments, `s` its buffers when it returns. Assumes nothing.
+-- No second answer, and no second buffer, fits the contract of a public function: `Post` is what its own `ensures`
+-- says, `a` its arguments, `s` its buffers when it returns. Assumes nothing.
 use mathlib.Core.Path.{_≡_, sym, _∙_}
 use Prim.Native.Nat.{ℕ}
 use Rattle.counts.specs.declared.weigh.Weighed.{Weighed}

@@ -75,7 +75,8 @@ module _ (text : Text) (contracts accounts : List ℕ) where
   place-fits id k e h l = omega (arith, ltb-true (contractOf t id) (entries contracts) (h .has), h .place)
 
   -- what finding an account's entry, or none, says
-  module _ (number : ℕ) (good : accountsGood accounts ≡ true) (e : List ℕ) (is : e ≡ foundAccount accounts number) where
+  module _ (number : ℕ) (good : accountsGood accounts ≡ true) (e : List ℕ)
+      (is : e ≡ foundAccount accounts number) where
     -- an empty part is no entry
     pub no-account : length e ≡ 0 → hasAccount t number ≡ false
     unfolding hasAccount accountOf tablesIn

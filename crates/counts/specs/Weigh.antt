@@ -1,4 +1,4 @@
--- 01, "The calls and their refusals": a record against the tables that are lent with it. ".. 19 (tables), 11, 12, 13 ..".
+-- 01, "The calls and their refusals": a record against the tables that are lent with it. "19 (tables), 11, 12, 13".
 use Prim.Native.Nat.{ℕ}
 use mathlib.Core.List.{List}
 use Rattle.wire.specs.Choice.{orElse}

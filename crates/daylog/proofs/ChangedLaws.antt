@@ -43,7 +43,8 @@ same-header a b e =
     let e2 = and-left (t1 && t2) t3 e3 in
     same-fields (eqb-true _ _ (and-left t1 t2 e2)) (eqb-true _ _ (and-right t1 t2 e2))
     (eqb-true _ _ (and-right (t1 && t2) t3 e3)) (eqb-true _ _ (and-right (t1 && t2 && t3) t4 e4))
-    (eqb-true _ _ (and-right (t1 && t2 && t3 && t4) t5 e5)) (eqb-true _ _ (and-right (t1 && t2 && t3 && t4 && t5) t6 e))
+    (eqb-true _ _ (and-right (t1 && t2 && t3 && t4) t5 e5))
+    (eqb-true _ _ (and-right (t1 && t2 && t3 && t4 && t5) t6 e))
 
 -- how the check finds a change: by the header, or else by the log's own faults
 pub changed-head : (head : Header) (log : List ℕ) → sameHeader head (headerOf log) ≡ false
@@ -67,5 +68,6 @@ unchanged head log e =
     )
 
 -- so they are the day's, and good
-pub still-good : (head : Header) (log : List ℕ) → tablesChanged head log ≡ false → (head ≡ headerOf log) × GoodLog head log
+pub still-good : (head : Header) (log : List ℕ) → tablesChanged head log ≡ false → (head ≡ headerOf log)
+    × GoodLog head log
 still-good head log e = let u = unchanged head log e in (u .0, rw (u .0) (log-sound log (u .1)))

@@ -15,8 +15,8 @@ use Rattle.tables.specs.Accounts.{accountsGood}
 use Rattle.tables.specs.Tables.{Tables, tablesIn}
 
 -- "0..2 mark 41 58 44 ("AXD")"
-abbrev pub markGood : List ℕ → Bool
-markGood log = eqb (getD log 0 0) 0x41 && eqb (getD log 1 0) 0x58 && eqb (getD log 2 0) 0x44
+abbrev pub logMarked : List ℕ → Bool
+logMarked log = eqb (getD log 0 0) 0x41 && eqb (getD log 1 0) 0x58 && eqb (getD log 2 0) 0x44
 
 -- "3 rulebook; 4..5 version, 1; 6..9 date as yyyymmdd; 10..11 number of contracts C ..; 12..13 number of accounts A
 -- ..; 14..15 zero"
@@ -70,5 +70,5 @@ headFault h log =
 unfoldable pub logFault : List ℕ → ℕ
 logFault log =
     pick (ltb (length log) 16) 1
-    (pick (not (markGood log)) 2
+    (pick (not (logMarked log)) 2
     (headFault (headerOf log) log))

@@ -17,7 +17,7 @@ use wire::refusal::VERSION;
 ghost use mathlib.Core.Path.{_≡_};
 ghost use Prim.Native.Nat.{_+_, _*_, _≤_};
 ghost use lib.ListN.{length};
-ghost use Rattle.daylog.specs.Header.{headerOf, textOf, markGood, sizesGood, entriesFault, headFault, logFault};
+ghost use Rattle.daylog.specs.Header.{headerOf, textOf, logMarked, sizesGood, entriesFault, headFault, logFault};
 
 // The header's fields after the mark.
 pub struct Header {
@@ -53,7 +53,7 @@ pub fn text_of(h: Header) -> Text
 
 // "AXD"
 fn mark_good(log: &[u8]) -> bool
-    ensures { λ r. ⌜ r ≡ markGood (now (log .entry)) ⌝ }
+    ensures { λ r. ⌜ r ≡ logMarked (now (log .entry)) ⌝ }
 {
     (get8(log, 0) == 0x41) & (get8(log, 1) == 0x58) & (get8(log, 2) == 0x44)
 }

@@ -1,4 +1,5 @@
--- Each call on its own: where the desk stands as the paper does, it gives what the paper says and stands so again. Assumes nothing.
+-- Each call on its own: where the desk stands as the paper does, it gives what the paper says and stands so again.
+-- Assumes nothing.
 use mathlib.Core.Path.{_≡_, refl, sym, ap, ap₂, subst}
 use mathlib.Core.Bool.{Bool, true, false}
 use mathlib.Core.List.{List, [], _∷_, map}
@@ -31,18 +32,22 @@ use Rattle.desk.specs.End.{endFault}
 use Rattle.desk.proofs.HandedLaws.{room-there}
 use Rattle.demands.specs.Counts.{dayVerdict}
 use Rattle.demands.specs.Days.{blank}
-use Rattle.demands.specs.Calls.{Step, Reply, moved, ended, Desk, deskOf, Given, stateAfter, logAfter, endState, Gives, fresh-gives, open-gives, take-gives, end-gives, abandon-gives, ask-gives, lend-gives, Ran, none, next, left}
+use Rattle.demands.specs.Calls.{Step, Reply, moved, ended, Desk, deskOf, Given, stateAfter, logAfter, endState}
+use Rattle.demands.specs.Calls.{Gives, fresh-gives, open-gives, take-gives, end-gives, abandon-gives, ask-gives}
+use Rattle.demands.specs.Calls.{lend-gives, Ran, none, next, left}
 use Rattle.demands.specs.Paper.{Course, idle, during, Paper, Ruled, dayIn, takeNumber, endRefusal, freshBook}
 use Rattle.demands.specs.Paper.{openRuled, takeRuled, endRuled, rule, rules, paperAfter}
 use Rattle.demands.specs.Demand2.{Seen, seen, ruled, begun}
-use Rattle.demands.proofs.DayLaws.{Agrees, agrees-open, agrees-take, raised-room, zeroed-length, take-is, end-is, count-is, book-is, findings-are}
+use Rattle.demands.proofs.DayLaws.{Agrees, agrees-open, agrees-take, raised-room, zeroed-length, take-is}
+use Rattle.demands.proofs.DayLaws.{end-is, count-is, book-is, findings-are}
 
 abbrev pub paper : Course → (book out : List ℕ) → (len : ℕ) → Paper
 paper course book out len = record { course = course; book = book; out = out; len = len }
 
 -- no day is open; or one is, and its cells are the times of its records
 pub data Stands : Desk → Paper → Type 0 where
-  rest : {held c book out : List ℕ} {room : ℕ} → length c ≡ room → Stands (deskOf Closed held c book out) (paper idle book out room)
+  rest : {held c book out : List ℕ} {room : ℕ} → length c ≡ room → Stands (deskOf Closed held c book out)
+      (paper idle book out room)
   busy : {log c book out : List ℕ} {rs : List Record} {room : ℕ} → length c ≡ room → Agrees log rs c
       → Stands (deskOf (Open (dayIn log rs)) log c book out) (paper (during log rs) book out room)
 
@@ -56,7 +61,8 @@ stands-out (busy n a) = refl
 
 -- a desk on which no day is open stands so
 pub begins : (w : Desk) → w .state ≡ Closed → Stands w (begun w)
-begins w e = subst (λ (s : State). Stands (deskOf s (w .log) (w .counts) (w .book) (w .out)) (begun w)) (sym e) (rest refl)
+begins w e = subst (λ (s : State). Stands (deskOf s (w .log) (w .counts) (w .book) (w .out)) (begun w)) (sym e)
+    (rest refl)
 
 pub record Same (g : Given) (r : Ruled) : Type 0 where
   pub reply : g .reply ≡ r .reply
@@ -107,7 +113,8 @@ module _ (held log c book out : List ℕ) where
 pub no-record-fault : (log : List ℕ) (rs : List Record) (row : List ℕ) → takeNumber log rs row ≡ 0
     → fieldsFault (tablesOf log) (recordOf row) ≡ 0
 unfolding takeNumber
-no-record-fault log rs row e = or-none (fieldsFault (tablesOf log) (recordOf row)) _ (pick-zero _ 1 _ (lit< tt) e .1) .0
+no-record-fault log rs row e = or-none (fieldsFault (tablesOf log) (recordOf row)) _
+    (pick-zero _ 1 _ (lit< tt) e .1) .0
 
 module _ (log c book out : List ℕ) (rs : List Record) (row : List ℕ) (a : Agrees log rs c) where
   abbrev takeIs : ℕ
@@ -194,18 +201,23 @@ step (busy n a) (abandon-gives e) = rw e (record { reply = refl; after = rest n 
 
 -- ---- any list of steps: what is seen of each, and how the desk then stands
 same-seen : {reply reply′ : Reply} {book book′ out out′ : List ℕ} → reply ≡ reply′ → book ≡ book′ → out ≡ out′
-    → _≡_ {A = Seen} (record { reply = reply; book = book; out = out }) (record { reply = reply′; book = book′; out = out′ })
+    → _≡_ {A = Seen} (record { reply = reply; book = book; out = out })
+    (record { reply = reply′; book = book′; out = out′ })
 same-seen p q r = rw (p, q, r)
 
-pub runs-read : {A : Type 0} (read : Seen → A) {w : Desk} {p : Paper} {cs : List Step} {gs : List Given} → Stands w p → Ran w cs gs
+pub runs-read : {A : Type 0} (read : Seen → A) {w : Desk} {p : Paper} {cs : List Step} {gs : List Given} → Stands w p
+    → Ran w cs gs
     → map (λ g. read (seen g)) gs ≡ map (λ r. read (ruled r)) (rules p cs)
 unfolding rules
 runs-read read s none = refl
 runs-read {A} read s (next g r) =
     let t = step s g in
-    ap₂ {C = List A} (λ x xs. x ∷ xs) (ap read (same-seen (t .reply) (stands-book (t .after)) (stands-out (t .after)))) (runs-read read (t .after) r)
+    ap₂ {C = List A} (λ x xs. x ∷ xs)
+    (ap read (same-seen (t .reply) (stands-book (t .after)) (stands-out (t .after))))
+    (runs-read read (t .after) r)
 
-pub runs-stand : {w : Desk} {p : Paper} {cs : List Step} {gs : List Given} → Stands w p → Ran w cs gs → Stands (left w gs) (paperAfter p cs)
+pub runs-stand : {w : Desk} {p : Paper} {cs : List Step} {gs : List Given} → Stands w p → Ran w cs gs
+    → Stands (left w gs) (paperAfter p cs)
 unfolding left paperAfter
 runs-stand s none = s
 runs-stand s (next g r) = runs-stand (step s g .after) r

@@ -20,7 +20,8 @@ use Rattle.counts.specs.Counting.{countsAs}
 use Rattle.counts.specs.Cells.{cellFor, bumped, raisedFor, raised}
 
 -- one more in a cell, seen at any
-bump-at : (b : Bool) (i j : ℕ) (c : List ℕ) → i < length c → getD (bumped b i c) j 0 ≡ getD c j 0 + pick (b && eqb i j) 1 0
+bump-at : (b : Bool) (i j : ℕ) (c : List ℕ) → i < length c → getD (bumped b i c) j 0 ≡ getD c j 0 + pick
+    (b && eqb i j) 1 0
 unfolding bumped pick
 bump-at false i j c h = sym (add-zero _)
 bump-at true i j c h = go (eqb i j) refl
@@ -116,7 +117,8 @@ module _ (kinds : Kinds) (p : Plan) (c : List ℕ)
     unfolding pick
     hit-other k j low high i e =
         hit-is k j low high i
-        ∙ ap (λ (t : Bool). pick t 1 0) (no-middle (countsAs p k) (eqb (p .group) g) (eqb k j) (eqb (p .place) place) e)
+        ∙ ap (λ (t : Bool). pick t 1 0) (no-middle (countsAs p k) (eqb (p .group) g) (eqb k j)
+        (eqb (p .place) place) e)
       where
         no-middle : (b x y z : Bool) → y ≡ false → b && (x && y && z) ≡ false
         no-middle b x y z q = rw (q, and-false x, and-false b)

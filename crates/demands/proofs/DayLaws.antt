@@ -1,5 +1,5 @@
--- While a day is open the cells are the times of the records taken: every refusal, and what ending writes, is then the rules'.
--- Assumes nothing.
+-- While a day is open the cells are the times of the records taken: every refusal, and what ending writes, is then
+-- the rules'. Assumes nothing.
 use mathlib.Core.Path.{_≡_, refl, sym, ap, ap₂, _∙_, subst}
 use mathlib.Core.Bool.{Bool, true, false, not, _&&_, and-false}
 use mathlib.Core.List.{List, [], _∷_, _++_}
@@ -7,7 +7,8 @@ use Prim.Native.Nat.{ℕ, _+_, _*_, _/_, _%_, _≤_, _<_}
 use native.Mathlib.Omega.{arith}
 use borrow.Author.Tests.{le-leb, le-ltb, eq-eqb}
 use lib.Dec.{leb, ltb, eqb}
-use lib.ListN.{length, getD, drop, replicate, length-append, length-replicate, length-drop, getD-replicate, List·getD-append}
+use lib.ListN.{length, getD, drop, replicate, length-append, length-replicate, length-drop, getD-replicate}
+use lib.ListN.{List·getD-append}
 use lib.Seq.{drop-at}
 use Rattle.wire.specs.Choice.{pick, orElse}
 use Rattle.wire.specs.Bytes.{bytes}
@@ -39,7 +40,8 @@ use Rattle.counts.specs.Weigh.{weighFault}
 use Rattle.desk.specs.Take.{sizesFault, heldFault, dayFault, takeFault}
 use Rattle.desk.specs.Open.{kindsFor, zeroed}
 use Rattle.desk.specs.Offences.{kindsOn, familyOf, reachedAt, lowest, lowestOn, verdictOn}
-use Rattle.desk.specs.End.{callFault, rowFault, cellsGood, cellsFault, inCells, cellVerdict, countsFault, lentFault, endFault}
+use Rattle.desk.specs.End.{callFault, rowFault, cellsGood, cellsFault, inCells, cellVerdict, countsFault, lentFault}
+use Rattle.desk.specs.End.{endFault}
 use Rattle.demands.specs.Counts.{howMany, timesOf, timesOn, dayVerdict}
 use Rattle.demands.specs.Paper.{dayIn, takeNumber, endRefusal}
 use Rattle.demands.proofs.CountLaws.{raised-length, raised-past, raised-at}
@@ -173,7 +175,16 @@ module _ (log : List ℕ) (rs : List Record) (c : List ℕ) (a : Agrees log rs c
   -- the tables are those of the opening
   same-self : (h : Header) → sameHeader h h ≡ true
   unfolding sameHeader
-  same-self h = rw (eq-eqb (h .rulebook) (h .rulebook) refl, eq-eqb (h .version) (h .version) refl, eq-eqb (h .date) (h .date) refl, eq-eqb (h .contracts) (h .contracts) refl, eq-eqb (h .accounts) (h .accounts) refl, eq-eqb (h .spare) (h .spare) refl)
+  same-self h = rw (
+    eq-eqb (h .rulebook) (h .rulebook) refl,
+    eq-eqb (h .version) (h .version) refl,
+    eq-eqb (h .date)
+        (h .date) refl,
+    eq-eqb (h .contracts) (h .contracts) refl,
+    eq-eqb (h .accounts) (h .accounts) refl,
+    eq-eqb
+        (h .spare) (h .spare) refl,
+  )
 
   tables-stand : tablesChanged (headerOf log) log ≡ false
   unfolding tablesChanged
@@ -229,7 +240,8 @@ module _ (log : List ℕ) (rs : List Record) (c : List ℕ) (a : Agrees log rs c
       let t = tablesOf log in
       let number = enough (t .text) (kindAt kinds ladder) in
       first-cong _ _ (t .contracts)
-      (λ k l. ap (λ (n : ℕ). eqb (familyOf t k) (familyAt ladder) && reached (times n) number) (times-are ladder k h l))
+      (λ k l. ap (λ (n : ℕ). eqb (familyOf t k) (familyAt ladder) && reached (times n) number)
+      (times-are ladder k h l))
 
   -- so the verdict by the cells is that by the records
   pub verdict-is : Same (cellVerdict (tablesOf log) c) (dayVerdict (tablesOf log) rs)

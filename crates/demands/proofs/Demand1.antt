@@ -13,8 +13,10 @@ use Rattle.book.specs.Ask.{askNumber, askAnswerAs, askedTotal, askedRung}
 use Rattle.desk.specs.Answers.{numberOf}
 use Rattle.desk.specs.Abandon.{abandonAnswer}
 use Rattle.desk.specs.End.{endNumber, endFound}
-use Rattle.demands.specs.Calls.{Step, Desk, Given, Gives, fresh-gives, open-gives, take-gives, end-gives, abandon-gives, ask-gives, lend-gives, Ran, none, next}
-use Rattle.demands.specs.Demand1.{AlwaysAnswered, OneAnswer, namedNumber, NumberNamed, valuesIn, namedValues, ValuesNamed, RefusalKeeps}
+use Rattle.demands.specs.Calls.{Step, Desk, Given, Gives, fresh-gives, open-gives, take-gives, end-gives}
+use Rattle.demands.specs.Calls.{abandon-gives, ask-gives, lend-gives, Ran, none, next}
+use Rattle.demands.specs.Demand1.{AlwaysAnswered, OneAnswer, namedNumber, NumberNamed, valuesIn, namedValues}
+use Rattle.demands.specs.Demand1.{ValuesNamed, RefusalKeeps}
 use Rattle.demands.proofs.NumberLaws.{answered-number, fresh-number, ask-number}
 use Rattle.demands.proofs.Answers.{answers}
 
@@ -36,7 +38,8 @@ pub one-answer : OneAnswer
 one-answer w [] [] [] none none = refl
 one-answer w (c ∷ cs) (g ∷ gs) (h ∷ hs) (next m r) (next n s) =
     let e : g ≡ h = one-given m n in
-    ap₂ {C = List Given} (λ x xs. x ∷ xs) e (one-answer (h .after) cs gs hs (subst (λ (x : Given). Ran (x .after) cs gs) e r) s)
+    ap₂ {C = List Given} (λ x xs. x ∷ xs) e
+    (one-answer (h .after) cs gs hs (subst (λ (x : Given). Ran (x .after) cs gs) e r) s)
 
 -- ---- its number is the one that is named
 pub number-named : NumberNamed

@@ -28,11 +28,18 @@ use Rattle.desk.specs.Open.{handedFault}
 use Rattle.desk.specs.End.{rowFault}
 use Rattle.demands.specs.Counts.{timesOn, dayVerdict}
 use Rattle.demands.specs.Days.{PastDay, endedDay, totalOver, foundOn, blank}
-use Rattle.demands.specs.Calls.{Step, makeBook, openDay, takeRecord, endDay, abandonDay, askBook, lendFindings, numberIn, Desk, Given, Gives, Ran, none, next, left, fullRoom}
+use Rattle.demands.specs.Calls.{Step, makeBook, openDay, takeRecord, endDay, abandonDay, askBook, lendFindings}
+use Rattle.demands.specs.Calls.{numberIn, Desk, Given, Gives, Ran, none, next, left, fullRoom}
 use Rattle.demands.specs.Paper.{during, Paper, dayIn, endRefusal, freshBook, endRuled, rule, paperAfter}
-use Rattle.demands.specs.Logs.{clerkCounts, recordsIn, logNumber, dayBook, ruledFile, Judged, JudgesAll, ruledLogs}
-use Rattle.demands.specs.Demand2.{begun, CallsRuled, CellsCounted, None, none as nothing, more, NeverChanged, SoundRun, NeverUnsound, FindingsListed, LowestId, History, recorded, history, since, BookOfDays, TotalsCounted, FreshIsBlank, BlankCarriesNothing, SanctionsFound, FindingsFound, LogsRuled, AlwaysRead, loggedDay, logDays, lastFile, FileOfDays, LogsFound}
-use Rattle.demands.proofs.CallLaws.{Stands, rest, busy, step, stands-book, begins, runs-read, runs-stand, handed-parts, paper}
+use Rattle.demands.specs.Logs.{clerkCounts, recordsIn, logNumber, dayBook, ruledFile, Judged, JudgesAll}
+use Rattle.demands.specs.Logs.{ruledLogs}
+use Rattle.demands.specs.Demand2.{begun, CallsRuled, CellsCounted, None, none as nothing, more, NeverChanged}
+use Rattle.demands.specs.Demand2.{SoundRun, NeverUnsound, FindingsListed, LowestId, History, recorded, history}
+use Rattle.demands.specs.Demand2.{since, BookOfDays, TotalsCounted, FreshIsBlank, BlankCarriesNothing}
+use Rattle.demands.specs.Demand2.{SanctionsFound, FindingsFound, LogsRuled, AlwaysRead, loggedDay, logDays}
+use Rattle.demands.specs.Demand2.{lastFile, FileOfDays, LogsFound}
+use Rattle.demands.proofs.CallLaws.{Stands, rest, busy, step, stands-book, begins, runs-read, runs-stand}
+use Rattle.demands.proofs.CallLaws.{handed-parts, paper}
 use Rattle.demands.proofs.LentLaws.{cells-counted as counted}
 use Rattle.demands.proofs.ListedLaws.{verdict-kinds, findings-list}
 use Rattle.demands.proofs.IdLaws.{lowest-id as lowest}
@@ -40,7 +47,8 @@ use Rattle.demands.proofs.NumberLaws.{refusal, number-is, never-19, nev
 use Rattle.demands.proofs.PaperLaws.{kept-fresh, recorded-end, open-book, take-book, abandon-book}
 use Rattle.demands.proofs.Answers.{reads}
 use Rattle.demands.proofs.LogLaws.{call-number, end-number, end-holds, judges, judges-ruled}
-use Rattle.demands.proofs.TotalLaws.{Ready, Kept, kept-none, kept-day, blank-sound, blank-carries, ready, ended-sound}
+use Rattle.demands.proofs.TotalLaws.{Ready, Kept, kept-none, kept-day, blank-sound, blank-carries, ready}
+use Rattle.demands.proofs.TotalLaws.{ended-sound}
 
 -- ---- any list of steps
 pub calls-ruled : CallsRuled
@@ -95,7 +103,8 @@ sound-fresh book rulebook good = go (eqb (freshFault (length book) rulebook) 0) 
         ap sound (fresh-is-blank book rulebook z) ∙ blank-sound rulebook (made-known (length book) rulebook z)
     go false e = ap sound (kept-fresh book rulebook e) ∙ good
 
-sound-step : {w : Desk} {p : Paper} → Stands w p → sound (p .book) ≡ true → (c : Step) → sound (rule p (p .course) c .after .book) ≡ true
+sound-step : {w : Desk} {p : Paper} → Stands w p → sound (p .book) ≡ true → (c : Step)
+    → sound (rule p (p .course) c .after .book) ≡ true
 unfolding rule endRuled
 sound-step s good (makeBook rulebook) = sound-fresh _ rulebook good
 sound-step s good (askBook group kind family) = good
@@ -104,9 +113,11 @@ sound-step {p = p} s good (openDay log) = ap sound (open-book p (p .course) log)
 sound-step {p = p} s good (takeRecord row) = ap sound (take-book p (p .course) row) ∙ good
 sound-step {p = p} s good abandonDay = ap sound (abandon-book p (p .course)) ∙ good
 sound-step (rest n) good (endDay row) = good
-sound-step (busy {log} {c} {book} {out} {rs} {room} n a) good (endDay row) = go (eqb (endRefusal log rs row book (length out)) 0) refl
+sound-step (busy {log} {c} {book} {out} {rs} {room} n a) good (endDay row) =
+    go (eqb (endRefusal log rs row book (length out)) 0) refl
   where
-    go : (t : Bool) → eqb (endRefusal log rs row book (length out)) 0 ≡ t → sound (rule (paper (during log rs) book out room) (during log rs) (endDay row) .after .book) ≡ true
+    go : (t : Bool) → eqb (endRefusal log rs row book (length out)) 0 ≡ t
+        → sound (rule (paper (during log rs) book out room) (during log rs) (endDay row) .after .book) ≡ true
     go true e =
         ap (λ (q : Paper). sound (q .book)) (sym (pick-yes _ _ _ _ e refl))
         ∙ ended-sound log book rs (end-ready log rs row book (length out) (a .sound) (eqb-true _ 0 e))
@@ -139,20 +150,24 @@ abbrev pub Holds : History → List ℕ → Type 0
 Holds h book = Kept (h .from) (h .days) book
 
 pub holds-fresh : (h : History) (book : List ℕ) (rulebook : ℕ) → Holds h book
-    → Holds (pick (eqb (freshFault (length book) rulebook) 0) (record { from = blank rulebook; days = [] }) h) (freshBook book rulebook)
+    → Holds (pick (eqb (freshFault (length book) rulebook) 0) (record { from = blank rulebook; days = [] }) h)
+    (freshBook book rulebook)
 holds-fresh h book rulebook k = go (eqb (freshFault (length book) rulebook) 0) refl
   where
     go : (t : Bool) → eqb (freshFault (length book) rulebook) 0 ≡ t
-        → Holds (pick (eqb (freshFault (length book) rulebook) 0) (record { from = blank rulebook; days = [] }) h) (freshBook book rulebook)
+        → Holds (pick (eqb (freshFault (length book) rulebook) 0) (record { from = blank rulebook; days = [] }) h)
+        (freshBook book rulebook)
     go true e =
         let z = eqb-true _ 0 e in
         subst (λ (q : History). Holds q (freshBook book rulebook)) (pick-yes _ _ _ _ e refl)
-        (subst (Kept (blank rulebook) []) (sym (fresh-is-blank book rulebook z)) (kept-none (blank rulebook) (blank-sound rulebook (made-known (length book) rulebook z))))
+        (subst (Kept (blank rulebook) []) (sym (fresh-is-blank book rulebook z))
+        (kept-none (blank rulebook) (blank-sound rulebook (made-known (length book) rulebook z))))
     go false e =
         subst (λ (q : History). Holds q (freshBook book rulebook)) (pick-no _ _ _ _ e refl)
         (subst (Kept (h .from) (h .days)) (sym (kept-fresh book rulebook e)) k)
 
-choose : (t : Bool) (h₁ h : History) (p₁ p : Paper) → (t ≡ true → Holds h₁ (p₁ .book)) → Holds h (p .book) → Holds (pick t h₁ h) (pick t p₁ p .book)
+choose : (t : Bool) (h₁ h : History) (p₁ p : Paper) → (t ≡ true → Holds h₁ (p₁ .book)) → Holds h (p .book)
+    → Holds (pick t h₁ h) (pick t p₁ p .book)
 unfolding pick
 choose true h₁ h p₁ p y n = y refl
 choose false h₁ h p₁ p y n = n
@@ -169,21 +184,25 @@ holds-step {p = p} h s k abandonDay = subst (Kept (h .from) (h .days)) (sym (aba
 holds-step h (rest n) k (endDay row) = k
 holds-step h (busy {log} {c} {book} {out} {rs} {room} n a) k (endDay row) =
     choose (eqb (endRefusal log rs row book (length out)) 0) _ h _ (paper (during log rs) book out room)
-    (λ e. kept-day (h .from) (h .days) log book rs k (end-ready log rs row book (length out) (a .sound) (eqb-true _ 0 e))) k
+    (λ e. kept-day (h .from) (h .days) log book rs k (end-ready log rs row book (length out) (a .sound)
+    (eqb-true _ 0 e))) k
 
 -- ---- what a run leaves
-holds-run : {w : Desk} {p : Paper} {cs : List Step} {gs : List Given} (h : History) → Stands w p → Holds h (p .book) → Ran w cs gs
+holds-run : {w : Desk} {p : Paper} {cs : List Step} {gs : List Given} (h : History) → Stands w p → Holds h (p .book)
+    → Ran w cs gs
     → Holds (history p h cs) (paperAfter p cs .book)
 unfolding paperAfter history
 holds-run h s k none = k
-holds-run {p = p} h s k (next {c = c} g r) = holds-run (recorded p (p .course) c h) (step s g .after) (holds-step h s k c) r
+holds-run {p = p} h s k (next {c = c} g r) = holds-run (recorded p (p .course) c h) (step s g .after)
+    (holds-step h s k c) r
 
 -- a desk and a paper that stand alike, with the days and their book
 pub record Stood (w : Desk) (p : Paper) (h : History) : Type 0 where
   pub stands : Stands w p
   pub holds : Holds h (p .book)
 
-pub sound-run : {w : Desk} {cs : List Step} {gs : List Given} → SoundRun w cs gs → Stood (left w gs) (paperAfter (begun w) cs) (since w cs)
+pub sound-run : {w : Desk} {cs : List Step} {gs : List Given} → SoundRun w cs gs
+    → Stood (left w gs) (paperAfter (begun w) cs) (since w cs)
 sound-run {w} r =
     let s = begins w (r .closed) in
     record { stands = runs-stand s (r .ran); holds = holds-run _ s (kept-none (w .book) (r .good)) (r .ran) }
@@ -231,7 +250,8 @@ record EndFound (v : Desk) (p : Paper) (h : History) (row : List ℕ) (g : Given
   bytes : g .after .out
       ≡ put (v .out) 0 (rows (foundOn (h .from) day (h .days)) (ladders (kindsOf (rulebookOf (h .from)))))
 
-end-found : {v : Desk} {p : Paper} (h : History) (row : List ℕ) (g : Given) → Stands v p → Holds h (p .book) → Gives v (endDay row) g
+end-found : {v : Desk} {p : Paper} (h : History) (row : List ℕ) (g : Given) → Stands v p → Holds h (p .book)
+    → Gives v (endDay row) g
     → numberIn (g .reply) ≡ 0 → EndFound v p h row g
 unfolding refusal
 end-found h row g (rest n) k m z = absurd (omega (arith, call-number (rest n) m))
@@ -261,7 +281,8 @@ logs-ruled = judges-ruled
 pub always-read : AlwaysRead
 always-read = reads
 
-kept-pick : (t : Bool) (from : List ℕ) (days₁ days : List PastDay) (book₁ book : List ℕ) → (t ≡ true → Kept from days₁ book₁) → Kept from days book
+kept-pick : (t : Bool) (from : List ℕ) (days₁ days : List PastDay) (book₁ book : List ℕ)
+    → (t ≡ true → Kept from days₁ book₁) → Kept from days book
     → Kept from (pick t days₁ days) (pick t book₁ book)
 unfolding pick
 kept-pick true from days₁ days book₁ book y n = y refl
@@ -291,7 +312,8 @@ logs-kept from days book (log ∷ logs) k = logs-kept from _ (ruledFile book log
 pub file-kept : (book : List ℕ) (logs : List (List ℕ)) (js : List Judged) → sound book ≡ true → JudgesAll book logs js
     → Kept book (logDays book [] logs) (lastFile book js)
 file-kept book logs js good r =
-    subst (λ (xs : List Judged). Kept book (logDays book [] logs) (lastFile book xs)) (sym (logs-ruled book logs js r)) (logs-kept book [] book logs (kept-none book good))
+    subst (λ (xs : List Judged). Kept book (logDays book [] logs) (lastFile book xs))
+    (sym (logs-ruled book logs js r)) (logs-kept book [] book logs (kept-none book good))
 
 pub file-of-days : FileOfDays
 file-of-days book logs js good r = file-kept book logs js good r .is

@@ -19,18 +19,22 @@ use Rattle.demands.specs.Paper.{Course, idle, Paper, numbersOn}
 use Rattle.demands.specs.Lent.{cellIn, CountsHold}
 use Rattle.demands.specs.Demand2.{Seen, begun, SoundRun, History, since}
 use Rattle.demands.specs.Join.{joinLog, between}
-use Rattle.demands.specs.Demand3.{Two, Added, Accepted, none, more, Fair, accepted as was-accepted, full-size as was-full-size, FreshRun, Run, CellsAdded, YearJoined, NothingLost, NothingLostInLogs}
+use Rattle.demands.specs.Demand3.{Two, Added, Accepted, none, more, Fair, accepted as was-accepted}
+use Rattle.demands.specs.Demand3.{full-size as was-full-size, FreshRun, Run, CellsAdded, YearJoined}
+use Rattle.demands.specs.Demand3.{NothingLost, NothingLostInLogs}
 use Rattle.demands.proofs.CallLaws.{Stands, step, stands-book, begins, runs-read}
 use Rattle.demands.proofs.NumberLaws.{number-is}
 use Rattle.demands.proofs.TotalLaws.{kept-none, blank-sound, blank-rulebook}
 use Rattle.demands.proofs.Demand2.{sound-run, logs-ruled, cells-counted}
 use Rattle.demands.proofs.JoinTables.{joined-log}
 use Rattle.demands.proofs.JoinYears.{kinds-joined, years-fresh, times-join, year-joined}
-use Rattle.demands.proofs.JoinRun.{AcceptedBy, Fits, accepted, full-size, Twin, both-idle, both-open, Beside, Runs, runs}
+use Rattle.demands.proofs.JoinRun.{AcceptedBy, Fits, accepted, full-size, Twin, both-idle, both-open, Beside}
+use Rattle.demands.proofs.JoinRun.{Runs, runs}
 use Rattle.demands.proofs.JoinLogs.{files}
 
 -- ---- acceptance, on the desk and on the paper
-accepted-by : {w : Desk} {p : Paper} {cs : List Step} {gs : List Given} → Stands w p → Ran w cs gs → Accepted gs → AcceptedBy p cs
+accepted-by : {w : Desk} {p : Paper} {cs : List Step} {gs : List Given} → Stands w p → Ran w cs gs → Accepted gs
+    → AcceptedBy p cs
 unfolding AcceptedBy
 accepted-by s no-step none = tt
 accepted-by {p = p} s (next {c = c} g r) (more e y) =
@@ -45,11 +49,13 @@ three-kinds One e = absurd (omega arith)
 three-kinds Three e = omega arith
 three-kinds Four e = omega arith
 
-module _ (kinds : Kinds) (begin : firstKind kinds ≡ 1) (a b : ℕ) (two : Two a b) (n n′ m m′ : (group kind place : ℕ) → ℕ)
+module _ (kinds : Kinds) (begin : firstKind kinds ≡ 1) (a b : ℕ) (two : Two a b) (n n′ m m′ : (group kind place : ℕ)
+    → ℕ)
     (across : ℕ → ℕ)
     (e : (group kind place : ℕ) → HasCell kinds group kind place → m group kind place ≡ n group kind place)
     (e′ : (group kind place : ℕ) → HasCell kinds group kind place → m′ group kind place ≡ n′ group kind place) where
-  cell-of : (group kind place : ℕ) → 1 ≤ group → group ≤ 128 → 1 ≤ kind → kind ≤ 3 → place < 32 → HasCell kinds group kind place
+  cell-of : (group kind place : ℕ) → 1 ≤ group → group ≤ 128 → 1 ≤ kind → kind ≤ 3 → place < 32
+      → HasCell kinds group kind place
   cell-of group kind place p q r t u = record {
     row = record {
       first-group = p;
@@ -71,7 +77,8 @@ module _ (kinds : Kinds) (begin : firstKind kinds ≡ 1) (a b : ℕ) (two : Two 
   after kind place low high h = e′ b kind place (cell-of b kind place (two .first-b) (two .last-b) low high h)
 
   -- a kind of which the two are added and something more
-  adds : (kind place extra : ℕ) → 1 ≤ kind → kind ≤ 3 → place < 32 → n′ b kind place ≡ n a kind place + n b kind place + extra
+  adds : (kind place extra : ℕ) → 1 ≤ kind → kind ≤ 3 → place < 32 → n′ b kind place
+      ≡ n a kind place + n b kind place + extra
       → m′ b kind place ≡ m a kind place + m b kind place + extra
   adds kind place extra low high h q =
       omega (arith, q, at-a kind place low high h, at-b kind place low high h, after kind place low high h)
@@ -79,10 +86,15 @@ module _ (kinds : Kinds) (begin : firstKind kinds ≡ 1) (a b : ℕ) (two : Two 
   added-as : Added kinds a b n n′ across → Added kinds a b m m′ across
   added-as q = record {
     selfs = λ place h. adds 1 place (across place) (omega arith) (omega arith) h (q .selfs place h);
-    frequent = λ place h. omega (arith, adds 2 place 0 (omega arith) (omega arith) h (omega (arith, q .frequent place h)));
+    frequent = λ place h. omega (
+      arith,
+      adds 2 place 0 (omega arith) (omega arith) h
+          (omega (arith, q .frequent place h)),
+    );
     over = λ place h. omega (arith, adds 3 place 0 (omega arith) (omega arith) h (omega (arith, q .over place h)));
     none-left = λ kind place h. e′ a kind place h ∙ q .none-left kind place h;
-    others = λ group kind place h o. e′ group kind place h ∙ q .others group kind place h o ∙ sym (e group kind place h);
+    others = λ group kind place h o. e′ group kind place h ∙ q .others group kind place h o
+        ∙ sym (e group kind place h);
   }
 
 cells-join : {a b : ℕ} {last last′ : Course} (lent lent′ c c′ : List ℕ) → Two a b → Twin a b last last′
@@ -93,24 +105,31 @@ cells-join {a} {b} lent lent′ c c′ two (both-open {log} {rs} e) h h′ =
     let t′ = tablesOf (joinLog a b log) in
     let kinds = kindsOn t in
     let j = joined-log a b log (two .first-a) (two .last-a) (two .first-b) (two .last-b) .tables e in
-    let after : (group kind place : ℕ) → HasCell kinds group kind place → cellIn kinds c′ group kind place ≡ timesOf t′ rs group kind place =
-    subst (λ (k : Kinds). (group kind place : ℕ) → HasCell k group kind place → cellIn k c′ group kind place ≡ timesOf t′ rs group kind place)
+    let after : (group kind place : ℕ) → HasCell kinds group kind place → cellIn kinds c′ group kind place
+    ≡ timesOf t′ rs group kind place =
+    subst (λ (k : Kinds). (group kind place : ℕ) → HasCell k group kind place → cellIn k c′ group kind place
+    ≡ timesOf t′ rs group kind place)
     (kinds-joined j) (h′ .times) in
-    added-as kinds (kinds-begin (t .text .rulebook)) a b two (timesOf t rs) (timesOf t′ rs) (cellIn kinds c) (cellIn kinds c′)
+    added-as kinds (kinds-begin (t .text .rulebook)) a b two (timesOf t rs) (timesOf t′ rs) (cellIn kinds c)
+    (cellIn kinds c′)
     (between t rs a b) (h .times) after (times-join a b two t t′ rs j)
 
 -- ---- lists of steps
-sound-fresh : {rulebook : ℕ} {w : Desk} {cs : List Step} {gs : List Given} → FreshRun rulebook w cs gs → SoundRun w cs gs
-sound-fresh {rulebook} r = record { closed = r .closed; good = ap sound (r .fresh) ∙ blank-sound rulebook (r .known); ran = r .ran }
+sound-fresh : {rulebook : ℕ} {w : Desk} {cs : List Step} {gs : List Given} → FreshRun rulebook w cs gs
+    → SoundRun w cs gs
+sound-fresh {rulebook} r =
+    record { closed = r .closed; good = ap sound (r .fresh) ∙ blank-sound rulebook (r .known); ran = r .ran }
 
-module _ (a b rulebook : ℕ) (w w′ : Desk) (cs cs′ : List Step) (gs gs′ : List Given) (r : Run a b rulebook w w′ cs cs′ gs gs′) where
+module _ (a b rulebook : ℕ) (w w′ : Desk) (cs cs′ : List Step) (gs gs′ : List Given)
+    (r : Run a b rulebook w w′ cs cs′ gs gs′) where
   abbrev start : Desk → History
   start v = record { from = v .book; days = [] }
 
   beside : Beside a b (begun w) (begun w′) (start w) (start w′)
   beside = record {
     course = both-idle;
-    years = rw (r .run .fresh, r .joined .fresh) (years-fresh a b rulebook (kept-none (blank rulebook) good) (kept-none (blank rulebook) good));
+    years = rw (r .run .fresh, r .joined .fresh) (years-fresh a b rulebook (kept-none (blank rulebook) good)
+        (kept-none (blank rulebook) good));
   }
     where
       good : sound (blank rulebook) ≡ true
@@ -121,7 +140,8 @@ module _ (a b rulebook : ℕ) (w w′ : Desk) (cs cs′ : List Step) (gs gs′ :
   fits (was-full-size h l n) = full-size h l n
 
   side : Runs a b (r .two) (begun w) (begun w′) (start w) (start w′) idle idle cs cs′
-  side = runs a b (r .two) (begun w) (begun w′) (start w) (start w′) idle idle cs cs′ beside both-idle (r .steps) (fits (r .fair)) (r .out) (r .lent)
+  side = runs a b (r .two) (begun w) (begun w′) (start w) (start w′) idle idle cs cs′ beside both-idle (r .steps)
+      (fits (r .fair)) (r .out) (r .lent)
 
 abbrev number : Seen → ℕ
 number x = numberIn (x .reply)
@@ -132,10 +152,14 @@ nothing-lost a b rulebook w w′ cs cs′ gs gs′ r =
     let q = side a b rulebook w w′ cs cs′ gs gs′ r in
     let s = sound-run (sound-fresh (r .run)) .stands in
     let s′ = sound-run (sound-fresh (r .joined)) .stands in record {
-      same-numbers = runs-read number (begins w′ (r .joined .closed)) (r .joined .ran) ∙ q .numbers ∙ sym (runs-read number (begins w (r .run .closed)) (r .run .ran));
-      cells-add = cells-join (w .counts) (w′ .counts) (left w gs .counts) (left w′ gs′ .counts) (r .two) (q .opened) (cells-counted w cs gs (r .run .closed) (r .run .ran)) (cells-counted w′ cs′ gs′ (r .joined .closed) (r .joined .ran));
+      same-numbers = runs-read number (begins w′ (r .joined .closed)) (r .joined .ran) ∙ q .numbers
+          ∙ sym (runs-read number (begins w (r .run .closed)) (r .run .ran));
+      cells-add = cells-join (w .counts) (w′ .counts) (left w gs .counts) (left w′ gs′ .counts) (r .two) (q .opened)
+          (cells-counted w cs gs (r .run .closed) (r .run .ran))
+          (cells-counted w′ cs′ gs′ (r .joined .closed) (r .joined .ran));
       same-book = q .after .years .same;
-      year = rw (stands-book s, stands-book s′) (year-joined a b (r .two) (since w cs) (since w′ cs′) _ _ (q .after .years));
+      year = rw (stands-book s, stands-book s′) (year-joined a b (r .two) (since w cs) (since w′ cs′) _ _
+          (q .after .years));
     }
 
 -- ---- day logs
@@ -148,7 +172,8 @@ year-kinds {a = a} {b} {from} {book} {book′} {days} {days′} e y =
 pub nothing-lost-in-logs : NothingLostInLogs
 nothing-lost-in-logs a b rulebook logs js js′ two known r r′ =
     let k = kept-none (blank rulebook) (blank-sound rulebook known) in
-    let q = files a b two (blank rulebook) (blank rulebook) [] [] (blank rulebook) (blank rulebook) logs (years-fresh a b rulebook k k) in
+    let q = files a b two (blank rulebook) (blank rulebook) [] [] (blank rulebook) (blank rulebook) logs
+    (years-fresh a b rulebook k k) in
     rw (logs-ruled (blank rulebook) logs js r, logs-ruled (blank rulebook) (map (joinLog a b) logs) js′ r′)
     (record {
       same-numbers = q .numbers;

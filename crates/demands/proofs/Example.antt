@@ -21,7 +21,8 @@ use Rattle.demands.specs.Counts.{howMany, timesOf, reachesOn, offence}
 use Rattle.demands.specs.Days.{offenceOn, offenceDays, carried, totalOver, blank}
 use Rattle.demands.specs.Join.{Joined, joined}
 use Rattle.demands.specs.Restrictions.{sanctionOn, sanctions}
-use Rattle.demands.specs.Example.{tablesWith, ownTrade, dayOf, daysWith, threeAlone, threeOrFive, WhyThreeOrFive}
+use Rattle.demands.specs.Example.{tablesWith, ownTrade, tradingDay, daysWith, threeAlone, threeOrFive}
+use Rattle.demands.specs.Example.{WhyThreeOrFive}
 
 -- an entry's group: the first is account 11's, the others are in 2
 group-joins : (first : Bool) → pick first 2 2 ≡ joined 1 2 (pick first 1 2)
@@ -44,7 +45,10 @@ tables-join = record {
 -- the four numbers
 numbers : (threeAlone 1 (daysWith 1) ≡ 1) × (threeAlone 2 (daysWith 2) ≡ 0)
     × (threeOrFive 1 (daysWith 1) ≡ 1) × (threeOrFive 2 (daysWith 2) ≡ 1)
-unfolding threeAlone threeOrFive daysWith dayOf tablesWith ownTrade sanctions sanctionOn offenceDays offenceOn totalOver carried blank bookAs headOf le bytes offence reachesOn timesOf howMany memberOn hasMember familyOf countsFor countsAs planOf planFor groupOf hasAccount contractOf accountOf accountPlace contractPlace kindsOf kindsIn firstKind sanction rung family enough exempt known byThree first some every pick
+unfolding threeAlone threeOrFive daysWith tradingDay tablesWith ownTrade sanctions sanctionOn offenceDays offenceOn
+    totalOver carried blank bookAs headOf le bytes offence reachesOn timesOf howMany memberOn hasMember familyOf
+    countsFor countsAs planOf planFor groupOf hasAccount contractOf accountOf accountPlace contractPlace kindsOf
+    kindsIn firstKind sanction rung family enough exempt known byThree first some every pick
 numbers = (refl, refl, refl, refl)
 
 pub why-three-or-five : WhyThreeOrFive

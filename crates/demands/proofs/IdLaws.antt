@@ -31,7 +31,8 @@ id-above text before e h =
     let type = hasType text (e .sort) in
     let product = leb (e .product) 15 in
     let largest = within 1 1000000 (e .largest .0) in
-    ltb-true before (e .id) (and-left rises type (and-left (rises && type) product (and-left (rises && type && product) largest h)))
+    ltb-true before (e .id)
+    (and-left rises type (and-left (rises && type) product (and-left (rises && type && product) largest h)))
 
 module _ (text : Text) (s : List ℕ) (good : contractsGood text s ≡ true) where
   above : (k : ℕ) → k < entries s → idBefore s k < contractAt s k .id
@@ -43,7 +44,8 @@ module _ (text : Text) (s : List ℕ) (good : contractsGood text s ≡ true) whe
   rising j zero h l = let e : j ≡ 0 = omega arith in rw e (omega arith)
   rising j (suc k) h l =
       ⊎-elim (λ (e : j ≡ suc k). rw e (omega arith))
-      (λ (m : j < suc k). omega (arith, rising j k (le-of-suc-le-suc m) (omega arith), above (suc k) l)) (eq-or-lt-of-le h)
+      (λ (m : j < suc k). omega (arith, rising j k (le-of-suc-le-suc m) (omega arith), above (suc k) l))
+      (eq-or-lt-of-le h)
 
 ids-rise : (log : List ℕ) → logFault log ≡ 0 → (j k : ℕ) → j ≤ k → k < tablesOf log .contracts
     → tablesOf log .contract j .id ≤ tablesOf log .contract k .id
@@ -55,5 +57,6 @@ pub lowest-id : LowestId
 lowest-id log rs ladder place e there lower =
     let t = tablesOf log in
     let lowest = lowestOn t (timesOn t rs) ladder in
-    let before : place < lowest = lt-of-not-le (λ (l : lowest ≤ place). omega (arith, ids-rise log e lowest place l there)) in
+    let before : place < lowest =
+    lt-of-not-le (λ (l : lowest ≤ place). omega (arith, ids-rise log e lowest place l there)) in
     first-below (reachesAt t rs ladder) (t .contracts) place (omega (arith, lowest-is t rs ladder))

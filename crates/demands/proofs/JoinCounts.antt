@@ -1,5 +1,5 @@
--- What the join of two groups does to the counts of a day: the two are added, and a trade between them becomes a self-trade.
--- Assumes nothing.
+-- What the join of two groups does to the counts of a day: the two are added, and a trade between them becomes a
+-- self-trade. Assumes nothing.
 use mathlib.Core.Path.{_≡_, refl, sym, ap, ap₂, _∙_}
 use mathlib.Core.Bool.{Bool, true, false, _&&_, _||_, not, and-false}
 use mathlib.Core.List.{List}
@@ -121,14 +121,16 @@ behind false p q r s e = refl
 -- a test on two groups that is three others, among the other tests of a self-trade
 around : (s m1 m2 c o x o1 y o2 z w : Bool) → pick (o && x) 1 0 ≡ pick (o1 && y) 1 0 + pick (o2 && z) 1 0 + pick w 1 0
     → pick (s && (o && m1 && m2) && x && c) 1 0
-    ≡ pick (s && (o1 && m1 && m2) && y && c) 1 0 + pick (s && (o2 && m1 && m2) && z && c) 1 0 + pick (s && m1 && m2 && w && c) 1 0
+    ≡ pick (s && (o1 && m1 && m2) && y && c) 1 0 + pick (s && (o2 && m1 && m2) && z && c) 1 0 + pick
+    (s && m1 && m2 && w && c) 1 0
 around s m1 m2 c o x o1 y o2 z w e =
     rw (inner-last s m1 m2 c o x, inner-last s m1 m2 c o1 y, inner-last s m1 m2 c o2 z, last-two (s && m1 && m2) w c)
     (behind (s && m1 && m2 && c) (o && x) (o1 && y) (o2 && z) w e)
 
 -- ---- general laws: reaching a number
 -- no fewer times reach what these reach
-pub reached-more : (n m : ℕ) (number : Times) → n ≤ m → reached (times n) number ≡ true → reached (times m) number ≡ true
+pub reached-more : (n m : ℕ) (number : Times) → n ≤ m → reached (times n) number ≡ true → reached (times m) number
+    ≡ true
 reached-more n m number up e =
     let low : number .0 ≤ n = leb-true _ _ (and-right (leb 1 (number .0)) (leb (number .0) n) e) in
     and-yes (leb 1 (number .0)) (leb (number .0) m) (and-left (leb 1 (number .0)) (leb (number .0) n) e)
@@ -181,15 +183,18 @@ module _ (a b : ℕ) (apart : a ≡ b → ⊥) where
   -- two groups of which the first is b after the join: both were a, or both b, or one each
   pub join-pair : (g h : ℕ)
       → pick (eqb (joined a b g) (joined a b h) && eqb (joined a b g) b) 1 0
-      ≡ pick (eqb g h && eqb g a) 1 0 + pick (eqb g h && eqb g b) 1 0 + pick ((eqb g a && eqb h b) || (eqb g b && eqb h a)) 1 0
+      ≡ pick (eqb g h && eqb g a) 1 0 + pick (eqb g h && eqb g b) 1 0 + pick
+      ((eqb g a && eqb h b) || (eqb g b && eqb h a)) 1 0
   join-pair g h =
       rw (both-same (joined a b g) (joined a b h) b, both-same g h a, both-same g h b, join-b g, join-b h)
       (pair-three (eqb g a) (eqb g b) (eqb h a) (eqb h b) (not-both g a b apart) (not-both h a b apart))
 
   -- two groups of which the first is another after the join
-  pub join-pair-other : (c g h : ℕ) → (c ≡ a → ⊥) → (c ≡ b → ⊥) → eqb (joined a b g) (joined a b h) && eqb (joined a b g) c ≡ eqb g h && eqb g c
+  pub join-pair-other : (c g h : ℕ) → (c ≡ a → ⊥) → (c ≡ b → ⊥) → eqb (joined a b g) (joined a b h)
+      && eqb (joined a b g) c ≡ eqb g h && eqb g c
   join-pair-other c g h na nb =
-      both-same (joined a b g) (joined a b h) c ∙ ap₂ (λ (s t : Bool). s && t) (join-other c g na nb) (join-other c h na nb) ∙ sym (both-same g h c)
+      both-same (joined a b g) (joined a b h) c ∙ ap₂ (λ (s t : Bool). s && t) (join-other c g na nb)
+      (join-other c h na nb) ∙ sym (both-same g h c)
 
 -- ---- the tables after the join
 module _ (a b : ℕ) (t t′ : Tables) (j : Joined a b t t′) (some-a : 1 ≤ a) (apart : a ≡ b → ⊥) where
@@ -228,14 +233,16 @@ module _ (a b : ℕ) (t t′ : Tables) (j : Joined a b t t′) (some-a : 1 ≤ a
   pub fault-joined : (r : Record) → fieldsFault t′ r ≡ fieldsFault t r
   unfolding fieldsFault
   fault-joined r =
-      rw (has-contract-joined (r .contract), has-account-joined (r .first), has-account-joined (r .second), j .text) refl
+      rw (has-contract-joined (r .contract), has-account-joined (r .first), has-account-joined (r .second), j .text)
+      refl
 
   pub member-other : (g : ℕ) → (g ≡ a → ⊥) → (g ≡ b → ⊥) → memberOn t′ g ≡ memberOn t g
   unfolding memberOn hasMember
   member-other g na nb =
       ap (some (λ k. eqb (t′ .account k .group) g && eqb (t′ .account k .kind) 2)) (j .accounts)
       ∙ some-cong _ _ (t .accounts)
-      (λ k. ap₂ (λ (x y : Bool). x && y) (ap (λ (m : ℕ). eqb m g) (j .group k) ∙ join-other a b apart g (t .account k .group) na nb) (ap (λ (m : ℕ). eqb m 2) (j .kind k)))
+      (λ k. ap₂ (λ (x y : Bool). x && y) (ap (λ (m : ℕ). eqb m g) (j .group k) ∙ join-other a b apart g
+      (t .account k .group) na nb) (ap (λ (m : ℕ). eqb m 2) (j .kind k)))
 
   pub family-joined : (place : ℕ) → familyOf t′ place ≡ familyOf t place
   unfolding familyOf
@@ -259,7 +266,14 @@ module _ (a b : ℕ) (t t′ : Tables) (j : Joined a b t t′) (some-a : 1 ≤ a
     plan-joined : planOf t′ r ≡ planned (joined a b one) (joined a b two)
     unfolding planOf
     plan-joined =
-        rw (contract-joined (r .contract), group-joined (r .first), group-joined (r .second), j .contract place-of, j .text) refl
+        rw (
+          contract-joined (r .contract),
+          group-joined (r .first),
+          group-joined
+              (r .second),
+          j .contract place-of,
+          j .text,
+        ) refl
 
     abbrev trade : Bool
     trade = eqb (r .sort) 1
@@ -289,51 +303,73 @@ module _ (a b : ℕ) (t t′ : Tables) (j : Joined a b t t′) (some-a : 1 ≤ a
     unfolding countsAs planFor
     pair-counts g h g′ h′ k e = rw e refl
 
-    counts : (g k place : ℕ) → countsFor t r g k place ≡ countsAs (planned one two) k && eqb one g && eqb place-of place
+    counts : (g k place : ℕ) → countsFor t r g k place ≡ countsAs (planned one two) k && eqb one g
+        && eqb place-of place
     unfolding countsFor planOf planFor
     counts g k place = refl
 
     counts-joined : (g k place : ℕ)
-        → countsFor t′ r g k place ≡ countsAs (planned (joined a b one) (joined a b two)) k && eqb (joined a b one) g && eqb place-of place
+        → countsFor t′ r g k place ≡ countsAs (planned (joined a b one) (joined a b two)) k && eqb (joined a b one) g
+        && eqb place-of place
     unfolding countsFor planFor
     counts-joined g k place = ap (λ (p : Plan). countsAs p k && eqb (p .group) g && eqb (p .place) place) plan-joined
 
     cancels-add : (k place : ℕ) → (k ≡ 1 → ⊥)
         → pick (countsFor t′ r b k place) 1 0 ≡ pick (countsFor t r a k place) 1 0 + pick (countsFor t r b k place) 1 0
     cancels-add k place n =
-        rw (counts-joined b k place, counts a k place, counts b k place, cancel-counts (joined a b one) (joined a b two) one two k n)
-        (middle-two (countsAs (planned one two) k) (eqb (joined a b one) b) (eqb one a) (eqb one b) (eqb place-of place) (join-b a b apart one) (not-both one a b apart))
+        rw (
+          counts-joined b k place,
+          counts a k place,
+          counts b k place,
+          cancel-counts (joined a b one)
+              (joined a b two) one two k n,
+        )
+        (middle-two (countsAs (planned one two) k) (eqb (joined a b one) b) (eqb one a) (eqb one b)
+        (eqb place-of place) (join-b a b apart one) (not-both one a b apart))
 
     selfs-add : (place : ℕ)
         → pick (countsFor t′ r b 1 place) 1 0
         ≡ pick (countsFor t r a 1 place) 1 0 + pick (countsFor t r b 1 place) 1 0 + pick (betweenFor t r a b place) 1 0
     unfolding betweenFor
     selfs-add place =
-        rw (counts-joined b 1 place, counts a 1 place, counts b 1 place, self-counts (joined a b one) (joined a b two), self-counts one two)
+        rw (
+          counts-joined b 1 place,
+          counts a 1 place,
+          counts b 1 place,
+          self-counts (joined a b one)
+              (joined a b two),
+          self-counts one two,
+        )
         (around trade free1 free2 (eqb place-of place)
-        (eqb (joined a b one) (joined a b two)) (eqb (joined a b one) b) (eqb one two) (eqb one a) (eqb one two) (eqb one b)
+        (eqb (joined a b one) (joined a b two)) (eqb (joined a b one) b) (eqb one two) (eqb one a) (eqb one two)
+        (eqb one b)
         ((eqb one a && eqb two b) || (eqb one b && eqb two a)) (join-pair a b apart one two))
 
     counts-other : (g k place : ℕ) → (g ≡ a → ⊥) → (g ≡ b → ⊥) → countsFor t′ r g k place ≡ countsFor t r g k place
     counts-other g k place na nb =
         counts-joined g k place
         ∙ middle-same _ _ _ _ _ (join-other a b apart g one na nb)
-        (λ y y′. pair-counts (joined a b one) (joined a b two) one two k (left-same _ _ _ _ (join-pair-other a b apart g one two na nb) y y′))
+        (λ y y′. pair-counts (joined a b one) (joined a b two) one two k
+        (left-same _ _ _ _ (join-pair-other a b apart g one two na nb) y y′))
         ∙ sym (counts g k place)
 
     counts-none : (k place : ℕ) → countsFor t′ r a k place ≡ false
-    counts-none k place = counts-joined a k place ∙ middle-no (countsAs (planned (joined a b one) (joined a b two)) k) (eqb (joined a b one) a) (eqb place-of place) (join-a a b apart one)
+    counts-none k place = counts-joined a k place ∙ middle-no (countsAs (planned (joined a b one) (joined a b two)) k)
+        (eqb (joined a b one) a) (eqb place-of place) (join-a a b apart one)
 
   -- ---- the times
-  pub times-added : (rs : List Record) (k place : ℕ) → (k ≡ 1 → ⊥) → timesOf t′ rs b k place ≡ timesOf t rs a k place + timesOf t rs b k place
+  pub times-added : (rs : List Record) (k place : ℕ) → (k ≡ 1 → ⊥) → timesOf t′ rs b k place
+      ≡ timesOf t rs a k place + timesOf t rs b k place
   unfolding timesOf
   times-added rs k place n = many-two _ _ _ rs (λ r. cancels-add r k place n)
 
-  pub selfs-added : (rs : List Record) (place : ℕ) → timesOf t′ rs b 1 place ≡ timesOf t rs a 1 place + timesOf t rs b 1 place + between t rs a b place
+  pub selfs-added : (rs : List Record) (place : ℕ) → timesOf t′ rs b 1 place
+      ≡ timesOf t rs a 1 place + timesOf t rs b 1 place + between t rs a b place
   unfolding timesOf between
   selfs-added rs place = many-three _ _ _ _ rs (λ r. selfs-add r place)
 
-  pub times-other : (rs : List Record) (g k place : ℕ) → (g ≡ a → ⊥) → (g ≡ b → ⊥) → timesOf t′ rs g k place ≡ timesOf t rs g k place
+  pub times-other : (rs : List Record) (g k place : ℕ) → (g ≡ a → ⊥) → (g ≡ b → ⊥) → timesOf t′ rs g k place
+      ≡ timesOf t rs g k place
   unfolding timesOf
   times-other rs g k place na nb = many-cong _ _ rs (λ r. counts-other r g k place na nb)
 
@@ -353,7 +389,8 @@ module _ (a b : ℕ) (t t′ : Tables) (j : Joined a b t t′) (some-a : 1 ≤ a
 
   -- ---- the offences
   reaches-is : (rs : List Record) (g k family place : ℕ)
-      → reachesOn t′ rs g k family place ≡ eqb (familyOf t place) family && reached (times (timesOf t′ rs g k place)) (enough (t .text) k)
+      → reachesOn t′ rs g k family place ≡ eqb (familyOf t place) family && reached (times (timesOf t′ rs g k place))
+      (enough (t .text) k)
   unfolding reachesOn
   reaches-is rs g k family place =
       ap₂ (λ (f : ℕ) (text : Text). eqb f family && reached (times (timesOf t′ rs g k place)) (enough text k))
@@ -375,7 +412,8 @@ module _ (a b : ℕ) (t t′ : Tables) (j : Joined a b t t′) (some-a : 1 ≤ a
   unfolding reachesOn
   reaches-other rs g k family place na nb =
       reaches-is rs g k family place
-      ∙ ap (λ (n : ℕ). eqb (familyOf t place) family && reached (times n) (enough (t .text) k)) (times-other rs g k place na nb)
+      ∙ ap (λ (n : ℕ). eqb (familyOf t place) family && reached (times n) (enough (t .text) k))
+      (times-other rs g k place na nb)
 
   reaches-none : (rs : List Record) (k family place : ℕ) → reachesOn t′ rs a k family place ≡ false
   reaches-none rs k family place =
@@ -384,11 +422,13 @@ module _ (a b : ℕ) (t t′ : Tables) (j : Joined a b t t′) (some-a : 1 ≤ a
       (reached-none (timesOf t′ rs a k place) (enough (t .text) k) (times-none rs k place))
 
   -- all places of the contracts are as they were
-  offence-is : (rs : List Record) (g k family : ℕ) → offence t′ rs g k family ≡ some (reachesOn t′ rs g k family) (t .contracts)
+  offence-is : (rs : List Record) (g k family : ℕ) → offence t′ rs g k family ≡ some (reachesOn t′ rs g k family)
+      (t .contracts)
   unfolding offence
   offence-is rs g k family = ap (some (reachesOn t′ rs g k family)) (j .contracts)
 
-  offence-more : (rs : List Record) (g g′ k family : ℕ) → ((place : ℕ) → timesOf t rs g k place ≤ timesOf t′ rs g′ k place)
+  offence-more : (rs : List Record) (g g′ k family : ℕ)
+      → ((place : ℕ) → timesOf t rs g k place ≤ timesOf t′ rs g′ k place)
       → offence t rs g k family ≡ true → offence t′ rs g′ k family ≡ true
   unfolding offence
   offence-more rs g g′ k family up e =
@@ -402,11 +442,14 @@ module _ (a b : ℕ) (t t′ : Tables) (j : Joined a b t t′) (some-a : 1 ≤ a
   pub offence-b : (rs : List Record) (k family : ℕ) → offence t rs b k family ≡ true → offence t′ rs b k family ≡ true
   offence-b rs k family = offence-more rs b b k family (rises-b rs k)
 
-  pub offence-other : (rs : List Record) (g k family : ℕ) → (g ≡ a → ⊥) → (g ≡ b → ⊥) → offence t′ rs g k family ≡ offence t rs g k family
+  pub offence-other : (rs : List Record) (g k family : ℕ) → (g ≡ a → ⊥) → (g ≡ b → ⊥) → offence t′ rs g k family
+      ≡ offence t rs g k family
   unfolding offence
   offence-other rs g k family na nb =
       offence-is rs g k family
-      ∙ some-cong (reachesOn t′ rs g k family) (reachesOn t rs g k family) (t .contracts) (λ place. reaches-other rs g k family place na nb)
+      ∙ some-cong (reachesOn t′ rs g k family) (reachesOn t rs g k family) (t .contracts)
+      (λ place. reaches-other rs g k family place na nb)
 
   pub offence-none : (rs : List Record) (k family : ℕ) → offence t′ rs a k family ≡ false
-  offence-none rs k family = offence-is rs a k family ∙ some-none (reachesOn t′ rs a k family) (t .contracts) (reaches-none rs k family)
+  offence-none rs k family = offence-is rs a k family ∙ some-none (reachesOn t′ rs a k family) (t .contracts)
+      (reaches-none rs k family)

@@ -1,5 +1,5 @@
--- A whole file as the clerk reads it, with group a joined to group b in its tables: its tables are the file's, joined, and its
--- rows are the file's. Assumes nothing.
+-- A whole file as the clerk reads it, with group a joined to group b in its tables: its tables are the file's,
+-- joined, and its rows are the file's. Assumes nothing.
 use mathlib.Core.Path.{_≡_, refl, sym, ap, ap₂, _∙_}
 use mathlib.Core.Bool.{Bool, true, false}
 use mathlib.Core.List.{List, [], _∷_}
@@ -47,10 +47,12 @@ module _ (a b : ℕ) (log : List ℕ) (some : 1 ≤ a) where
   front-joined =
       ap (λ (n : ℕ). take n (joinLog a b log)) size-joined
       ∙ by-take (λ i x. pick (groupByte (headerOf log) i) (joined a b x) x) (frontSize log) 0 log
-      ∙ ap (λ (h : Header). byPlace (λ i x. pick (groupByte h i) (joined a b x) x) 0 (front log)) (sym (front-head log))
+      ∙ ap (λ (h : Header). byPlace (λ i x. pick (groupByte h i) (joined a b x) x) 0 (front log))
+      (sym (front-head log))
 
   -- ---- and what comes after it
-  after-joined : (n : ℕ) → 16 + 8 * headerOf log .contracts + 8 * headerOf log .accounts ≤ n → drop n (joinLog a b log) ≡ drop n log
+  after-joined : (n : ℕ) → 16 + 8 * headerOf log .contracts + 8 * headerOf log .accounts ≤ n
+      → drop n (joinLog a b log) ≡ drop n log
   after-joined n h =
       let j = joinLog a b log in
       ext-getD 0 (drop n j) (drop n log) (omega (arith, length-drop n j, length-drop n log, join-length a b log some))
@@ -62,6 +64,7 @@ module _ (a b : ℕ) (log : List ℕ) (some : 1 ≤ a) where
       let whole : length (front log) ≡ 16 + 8 * headerOf log .contracts + 8 * headerOf log .accounts =
       rw front-head at (log-sound (front log) e .whole) in
       let j = joinLog a b log in
-      ap (λ (h : Header). pieces (recordLength (h .version)) (length j) (drop (frontSize j) j)) (header-stands a b log some)
+      ap (λ (h : Header). pieces (recordLength (h .version)) (length j) (drop (frontSize j) j))
+      (header-stands a b log some)
       ∙ ap₂ (pieces (rowSize log)) (join-length a b log some)
       (ap (λ (m : ℕ). drop m (joinLog a b log)) size-joined ∙ after-joined n (omega (arith, whole, length-take n log)))

@@ -42,11 +42,13 @@ module _ (l : ℕ) where
   unfolding foundAt sanctionAt totalAfter offends
   found-is v date book = refl
 
-  found-same : {s s′ : Shape} {r r′ c c′ k k′ i i′ n n′ : ℕ} {m m′ y y′ : Bool} → s′ ≡ s → r′ ≡ r → c′ ≡ c → k′ ≡ k → i′ ≡ i
+  found-same : {s s′ : Shape} {r r′ c c′ k k′ i i′ n n′ : ℕ} {m m′ y y′ : Bool} → s′ ≡ s → r′ ≡ r → c′ ≡ c → k′ ≡ k
+      → i′ ≡ i
       → m′ ≡ m → y′ ≡ y → n′ ≡ n → found s′ r′ c′ k′ i′ m′ y′ n′ ≡ found s r c k i m y n
   found-same es er ec ek ei em ey en = rw (es, er, ec, ek, ei, em, ey, en)
 
-module _ (a b : ℕ) (t t′ : Tables) (j : Joined a b t t′) (some-a : 1 ≤ a) (apart : a ≡ b → ⊥) (rs : List Record) (l : ℕ) where
+module _ (a b : ℕ) (t t′ : Tables) (j : Joined a b t t′) (some-a : 1 ≤ a) (apart : a ≡ b → ⊥) (rs : List Record)
+    (l : ℕ) where
   -- the ladder's group and kind by a text: the two days have one
   abbrev groupBy : Text → ℕ
   groupBy text = groupAt (kindsOf (text .rulebook)) l
@@ -79,9 +81,11 @@ module _ (a b : ℕ) (t t′ : Tables) (j : Joined a b t t′) (some-a : 1 ≤ a
         ∙ member-other a b t t′ j some-a apart (groupBy (t .text)) not-a not-b
 
     id-same : t′ .contract (lowestOn t′ (timesOn t′ rs) l) .id ≡ t .contract (lowestOn t (timesOn t rs) l) .id
-    id-same = ap (λ (k : ℕ). t′ .contract k .id) lowest-same ∙ ap (λ e. e .id) (j .contract (lowestOn t (timesOn t rs) l))
+    id-same = ap (λ (k : ℕ). t′ .contract k .id) lowest-same ∙ ap (λ e. e .id)
+        (j .contract (lowestOn t (timesOn t rs) l))
 
-    pub found-other : (date : ℕ) (book book′ : List ℕ) → lastDate book′ ≡ lastDate book → totalAt book′ l ≡ totalAt book l
+    pub found-other : (date : ℕ) (book book′ : List ℕ) → lastDate book′ ≡ lastDate book → totalAt book′ l
+        ≡ totalAt book l
         → foundAt (dayVerdict t′ rs) date book′ l ≡ foundAt (dayVerdict t rs) date book l
     unfolding verdictOn dayShape
     found-other date book book′ same-date same-total =
@@ -97,5 +101,6 @@ module _ (a b : ℕ) (t t′ : Tables) (j : Joined a b t t′) (some-a : 1 ≤ a
       let f = familyAt l in
       let gone : offence t′ rs (groupBy (t′ .text)) (kindBy (t′ .text)) f ≡ _ =
       ap (λ (x : Text). offence t′ rs (groupBy x) (kindBy x) f) (j .text)
-      ∙ ap (λ (g : ℕ). offence t′ rs g (kindBy (t .text)) f) e ∙ offence-none a b t t′ j some-a apart rs (kindBy (t .text)) f in
+      ∙ ap (λ (g : ℕ). offence t′ rs g (kindBy (t .text)) f) e ∙ offence-none a b t t′ j some-a apart rs
+      (kindBy (t .text)) f in
       sym (pick-no _ _ _ _ (offends-is t′ rs l ∙ gone) refl)

@@ -1,5 +1,5 @@
--- Joining group a to group b in a log changes the groups of its account entries and nothing else: its header, its length and its
--- contracts stand, and opening's checks find the same fault in it, or again none. Assumes nothing.
+-- Joining group a to group b in a log changes the groups of its account entries and nothing else: its header, its
+-- length and its contracts stand, and opening's checks find the same fault in it, or again none. Assumes nothing.
 use mathlib.Core.Path.{_≡_, refl, sym, ap, _∙_}
 use mathlib.Core.Bool.{Bool, true, false, not, _&&_}
 use mathlib.Core.List.{List, [], _∷_}
@@ -17,7 +17,7 @@ use Rattle.wire.proofs.ByteLaws.{le-cong}
 use Rattle.tables.specs.Accounts.{accountAt, numberBefore, accountGoodAt, accountsGood}
 use Rattle.tables.specs.Contracts.{contractAt}
 use Rattle.tables.specs.Entries.{entries}
-use Rattle.daylog.specs.Header.{headerOf, markGood, contractsPart, accountsPart, entriesFault, headFault, logFault}
+use Rattle.daylog.specs.Header.{headerOf, logMarked, contractsPart, accountsPart, entriesFault, headFault, logFault}
 use Rattle.daylog.specs.Header.{tablesOf}
 use Rattle.tables.specs.Tables.{tablesIn}
 use Rattle.daylog.proofs.FaultLaws.{log-sound}
@@ -30,11 +30,13 @@ by-length f i [] = refl
 by-length f i (x ∷ xs) = ap suc (by-length f (suc i) xs)
 
 -- one that leaves 0 as it is holds past the end too
-by-at : (f : ℕ → ℕ → ℕ) → ((i : ℕ) → f i 0 ≡ 0) → (i : ℕ) (s : List ℕ) (k : ℕ) → getD (byPlace f i s) k 0 ≡ f (i + k) (getD s k 0)
+by-at : (f : ℕ → ℕ → ℕ) → ((i : ℕ) → f i 0 ≡ 0) → (i : ℕ) (s : List ℕ) (k : ℕ) → getD (byPlace f i s) k 0
+    ≡ f (i + k) (getD s k 0)
 unfolding byPlace
 by-at f h i [] k = sym (h (i + k))
 by-at f h i (x ∷ xs) zero = ap (λ (j : ℕ). f j x) (sym (add-zero i))
-by-at f h i (x ∷ xs) (suc k) = by-at f h (suc i) xs k ∙ ap (λ (j : ℕ). f j (getD xs k 0)) (suc-add i k ∙ sym (add-suc i k))
+by-at f h i (x ∷ xs) (suc k) = by-at f h (suc i) xs k ∙ ap (λ (j : ℕ). f j (getD xs k 0))
+    (suc-add i k ∙ sym (add-suc i k))
 
 -- ---- tests
 -- the rest of a chain of refusals matters only where this one did not hold
@@ -67,7 +69,7 @@ header-same s t h =
     let spare = le-cong 2 s t 14 14 (λ k l. h (14 + k) (omega arith)) in
     rw (h 3 (omega arith), version, date, contracts, accounts, spare)
 
-mark-same : (s t : List ℕ) → ((i : ℕ) → i < 16 → getD s i 0 ≡ getD t i 0) → markGood s ≡ markGood t
+mark-same : (s t : List ℕ) → ((i : ℕ) → i < 16 → getD s i 0 ≡ getD t i 0) → logMarked s ≡ logMarked t
 mark-same s t h = rw (h 0 (omega arith), h 1 (omega arith), h 2 (omega arith))
 
 module _ (a b : ℕ) (log : List ℕ) (some : 1 ≤ a) where
@@ -75,11 +77,13 @@ module _ (a b : ℕ) (log : List ℕ) (some : 1 ≤ a) where
   zero-stays : joined a b 0 ≡ 0
   zero-stays = sym (pick-no _ _ _ _ (ne-eqb 0 a (λ e. omega arith)) refl)
 
-  byte : (i : ℕ) → getD (joinLog a b log) i 0 ≡ pick (groupByte (headerOf log) i) (joined a b (getD log i 0)) (getD log i 0)
+  byte : (i : ℕ) → getD (joinLog a b log) i 0 ≡ pick (groupByte (headerOf log) i) (joined a b (getD log i 0))
+      (getD log i 0)
   unfolding joinLog
   byte i =
       by-at (λ j x. pick (groupByte (headerOf log) j) (joined a b x) x)
-      (λ j. ap (λ (n : ℕ). pick (groupByte (headerOf log) j) n 0) zero-stays ∙ pick-same (groupByte (headerOf log) j) 0) 0 log i
+      (λ j. ap (λ (n : ℕ). pick (groupByte (headerOf log) j) n 0) zero-stays
+      ∙ pick-same (groupByte (headerOf log) j) 0) 0 log i
       ∙ ap (λ (j : ℕ). pick (groupByte (headerOf log) j) (joined a b (getD log i 0)) (getD log i 0)) (zero-add i)
 
   stays : (i : ℕ) → groupByte (headerOf log) i ≡ false → getD (joinLog a b log) i 0 ≡ getD log i 0
@@ -96,7 +100,8 @@ module _ (a b : ℕ) (log : List ℕ) (some : 1 ≤ a) where
       let to = accountsTo (headerOf log) in
       stays i (and-no (leb from i && ltb i to) _ (and-no (leb from i) (ltb i to) (lt-leb from i h)))
 
-  pub past : (i : ℕ) → 16 + 8 * headerOf log .contracts + 8 * headerOf log .accounts ≤ i → getD (joinLog a b log) i 0 ≡ getD log i 0
+  pub past : (i : ℕ) → 16 + 8 * headerOf log .contracts + 8 * headerOf log .accounts ≤ i → getD (joinLog a b log) i 0
+      ≡ getD log i 0
   past i h =
       let from = 16 + 8 * headerOf log .contracts in
       let to = accountsTo (headerOf log) in
@@ -105,7 +110,7 @@ module _ (a b : ℕ) (log : List ℕ) (some : 1 ≤ a) where
   pub header-stands : headerOf (joinLog a b log) ≡ headerOf log
   header-stands = header-same (joinLog a b log) log (λ i h. before i (omega arith))
 
-  mark-stands : markGood (joinLog a b log) ≡ markGood log
+  mark-stands : logMarked (joinLog a b log) ≡ logMarked log
   mark-stands = mark-same (joinLog a b log) log (λ i h. before i (omega arith))
 
   contracts-stand : contractsPart (headerOf log) (joinLog a b log) ≡ contractsPart (headerOf log) log
@@ -113,14 +118,22 @@ module _ (a b : ℕ) (log : List ℕ) (some : 1 ≤ a) where
       let j = joinLog a b log in
       let n = 8 * headerOf log .contracts in
       ext-getD 0 (take n (drop 16 j)) (take n (drop 16 log))
-      (omega (arith, length-take n (drop 16 j), length-take n (drop 16 log), length-drop 16 j, length-drop 16 log, join-length))
+      (omega (
+        arith,
+        length-take n (drop 16 j),
+        length-take n (drop 16 log),
+        length-drop 16 j,
+        length-drop 16 log,
+        join-length,
+      ))
       (λ i h.
       let l : i < n = omega (arith, length-take n (drop 16 j)) in
       getD-take n (drop 16 j) i 0 l ∙ getD-drop 16 j i 0 ∙ before (16 + i) (omega arith)
       ∙ sym (getD-take n (drop 16 log) i 0 l ∙ getD-drop 16 log i 0))
 
   -- ---- the bytes of the accounts
-  other : (i : ℕ) → (i % 8 ≡ 4 → ⊥) → getD (accountsPart (headerOf log) (joinLog a b log)) i 0 ≡ getD (accountsPart (headerOf log) log) i 0
+  other : (i : ℕ) → (i % 8 ≡ 4 → ⊥) → getD (accountsPart (headerOf log) (joinLog a b log)) i 0
+      ≡ getD (accountsPart (headerOf log) log) i 0
   other i n =
       let from = 16 + 8 * headerOf log .contracts in
       let to = accountsTo (headerOf log) in
@@ -130,19 +143,23 @@ module _ (a b : ℕ) (log : List ℕ) (some : 1 ≤ a) where
       ∙ stays (from + i) (and-no-right (leb from (from + i) && ltb (from + i) to) (eqb ((from + i - from) % 8) 4) t)
       ∙ sym (getD-drop from log i 0)
 
-  number-stands : (k : ℕ) → accountAt (accountsPart (headerOf log) (joinLog a b log)) k .number ≡ accountAt (accountsPart (headerOf log) log) k .number
+  number-stands : (k : ℕ) → accountAt (accountsPart (headerOf log) (joinLog a b log)) k .number
+      ≡ accountAt (accountsPart (headerOf log) log) k .number
   unfolding accountAt
   number-stands k = le-cong 4 _ _ (8 * k) (8 * k) (λ r l. other (8 * k + r) (λ e. omega arith))
 
-  kind-stands : (k : ℕ) → accountAt (accountsPart (headerOf log) (joinLog a b log)) k .kind ≡ accountAt (accountsPart (headerOf log) log) k .kind
+  kind-stands : (k : ℕ) → accountAt (accountsPart (headerOf log) (joinLog a b log)) k .kind
+      ≡ accountAt (accountsPart (headerOf log) log) k .kind
   unfolding accountAt
   kind-stands k = other (8 * k + 5) (λ e. omega arith)
 
-  spare-stands : (k : ℕ) → accountAt (accountsPart (headerOf log) (joinLog a b log)) k .spare ≡ accountAt (accountsPart (headerOf log) log) k .spare
+  spare-stands : (k : ℕ) → accountAt (accountsPart (headerOf log) (joinLog a b log)) k .spare
+      ≡ accountAt (accountsPart (headerOf log) log) k .spare
   unfolding accountAt
   spare-stands k = le-cong 2 _ _ (8 * k + 6) (8 * k + 6) (λ r l. other (8 * k + 6 + r) (λ e. omega arith))
 
-  before-stands : (k : ℕ) → numberBefore (accountsPart (headerOf log) (joinLog a b log)) k ≡ numberBefore (accountsPart (headerOf log) log) k
+  before-stands : (k : ℕ) → numberBefore (accountsPart (headerOf log) (joinLog a b log)) k
+      ≡ numberBefore (accountsPart (headerOf log) log) k
   unfolding numberBefore
   before-stands zero = refl
   before-stands (suc k) = number-stands k
@@ -154,21 +171,26 @@ module _ (a b : ℕ) (log : List ℕ) (some : 1 ≤ a) where
 
   -- ---- a log that is as long as its header says: the groups join, and past its end there is no byte
   module _ (whole : length log ≡ 16 + 8 * headerOf log .contracts + 8 * headerOf log .accounts) where
-    fifth : (i : ℕ) → i % 8 ≡ 4 → getD (accountsPart (headerOf log) (joinLog a b log)) i 0 ≡ joined a b (getD (accountsPart (headerOf log) log) i 0)
+    fifth : (i : ℕ) → i % 8 ≡ 4 → getD (accountsPart (headerOf log) (joinLog a b log)) i 0
+        ≡ joined a b (getD (accountsPart (headerOf log) log) i 0)
     fifth i h =
         let from = 16 + 8 * headerOf log .contracts in
         getD-drop from (joinLog a b log) i 0 ∙ go (ltb (from + i) (from + 8 * headerOf log .accounts)) refl
         ∙ ap (joined a b) (sym (getD-drop from log i 0))
       where
-        go : (t : Bool) → ltb (16 + 8 * headerOf log .contracts + i) (16 + 8 * headerOf log .contracts + 8 * headerOf log .accounts) ≡ t
-            → getD (joinLog a b log) (16 + 8 * headerOf log .contracts + i) 0 ≡ joined a b (getD log (16 + 8 * headerOf log .contracts + i) 0)
+        go : (t : Bool) → ltb (16 + 8 * headerOf log .contracts + i)
+            (16 + 8 * headerOf log .contracts + 8 * headerOf log .accounts) ≡ t
+            → getD (joinLog a b log) (16 + 8 * headerOf log .contracts + i) 0
+            ≡ joined a b (getD log (16 + 8 * headerOf log .contracts + i) 0)
         go true l =
             let from = 16 + 8 * headerOf log .contracts in
             let to = accountsTo (headerOf log) in
             let e : from + i - from ≡ i = omega arith in
             let t : eqb ((from + i - from) % 8) 4 ≡ true = rw e (eq-eqb (i % 8) 4 h) in
             let u = and-yes (leb from (from + i)) (ltb (from + i) to) (le-leb from (from + i) (omega arith)) l in
-            byte (from + i) ∙ sym (pick-yes _ _ _ _ (and-yes (leb from (from + i) && ltb (from + i) to) (eqb ((from + i - from) % 8) 4) u t) refl)
+            byte (from + i)
+            ∙ sym (pick-yes _ _ _ _ (and-yes (leb from (from + i) && ltb (from + i) to)
+            (eqb ((from + i - from) % 8) 4) u t) refl)
         go false l =
             let from = 16 + 8 * headerOf log .contracts in
             let to = accountsTo (headerOf log) in
@@ -176,7 +198,8 @@ module _ (a b : ℕ) (log : List ℕ) (some : 1 ≤ a) where
             let z : getD log (from + i) 0 ≡ 0 = List·getD-eq-default log 0 (omega arith) in
             past (from + i) m ∙ z ∙ sym (ap (joined a b) z ∙ zero-stays)
 
-    group-joins : (k : ℕ) → accountAt (accountsPart (headerOf log) (joinLog a b log)) k .group ≡ joined a b (accountAt (accountsPart (headerOf log) log) k .group)
+    group-joins : (k : ℕ) → accountAt (accountsPart (headerOf log) (joinLog a b log)) k .group
+        ≡ joined a b (accountAt (accountsPart (headerOf log) log) k .group)
     unfolding accountAt
     group-joins k = fifth (8 * k + 4) (omega arith)
 
@@ -201,7 +224,14 @@ module _ (a b : ℕ) (log : List ℕ) (some : 1 ≤ a) where
         let s = accountsPart (headerOf log) log in
         let t = accountsPart (headerOf log) (joinLog a b log) in
         every-cong (accountGoodAt t) (accountGoodAt s) (entries t)
-        (λ k l. rw (before-stands k, number-stands k, group-joins whole k, kind-stands k, spare-stands k, joined-within a b (accountAt s k .group) some most low high))
+        (λ k l. rw (
+          before-stands k,
+          number-stands k,
+          group-joins whole k,
+          kind-stands k,
+          spare-stands k,
+          joined-within a b (accountAt s k .group) some most low high,
+        ))
         ∙ rw entries-stand
 
     tables-same : entriesFault (headerOf log) (joinLog a b log) ≡ entriesFault (headerOf log) log

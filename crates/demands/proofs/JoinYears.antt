@@ -1,5 +1,5 @@
--- The days of a run and of the same run with two groups joined, with their books: what the books say is the same but for the
--- two groups, a day more goes into both, and nothing is lost. Assumes nothing.
+-- The days of a run and of the same run with two groups joined, with their books: what the books say is the same but
+-- for the two groups, a day more goes into both, and nothing is lost. Assumes nothing.
 use mathlib.Core.Path.{_≡_, refl, sym, ap, ap₂, _∙_, subst}
 use mathlib.Core.Logic.{_⊎_, inl, inr}
 use mathlib.Core.Bool.{Bool, true, false, not, _&&_}
@@ -35,7 +35,8 @@ use Rattle.demands.specs.Demand3.{Two, Other, Added, DayJoined, DaysJoin
 use Rattle.demands.proofs.TotalLaws.{OfRulebook, Kept, kept-day, ready, blank-rulebook, blank-carries}
 use Rattle.demands.proofs.Demand2.{Holds}
 use Rattle.demands.proofs.JoinTables.{joined-log}
-use Rattle.demands.proofs.JoinCounts.{times-added, selfs-added, times-none, times-other, offence-a, offence-b, offence-none, offence-other}
+use Rattle.demands.proofs.JoinCounts.{times-added, selfs-added, times-none, times-other, offence-a, offence-b}
+use Rattle.demands.proofs.JoinCounts.{offence-none, offence-other}
 use Rattle.demands.proofs.JoinFound.{found-other, found-none}
 use Rattle.demands.proofs.RestrictLaws.{third, fewer}
 
@@ -47,11 +48,13 @@ times-join a b two t t′ rs j = record {
   frequent = λ place h. times-added a b t t′ j (two .first-a) (two .differ) rs 2 place (λ e. omega arith);
   over = λ place h. times-added a b t t′ j (two .first-a) (two .differ) rs 3 place (λ e. omega arith);
   none-left = λ kind place h. times-none a b t t′ j (two .first-a) (two .differ) rs kind place;
-  others = λ group kind place h o. times-other a b t t′ j (two .first-a) (two .differ) rs group kind place (o .not-a) (o .not-b);
+  others = λ group kind place h o. times-other a b t t′ j (two .first-a) (two .differ) rs group kind place (o .not-a)
+      (o .not-b);
 }
 
 -- ---- the days of the two runs
-pub last-same : {a b : ℕ} {from : List ℕ} {days days′ : List PastDay} → DaysJoined a b from days days′ → lastOn from days′ ≡ lastOn from days
+pub last-same : {a b : ℕ} {from : List ℕ} {days days′ : List PastDay} → DaysJoined a b from days days′
+    → lastOn from days′ ≡ lastOn from days
 unfolding lastOn
 last-same none = refl
 last-same (more j rest) = j .date
@@ -82,42 +85,47 @@ module _ (a b rulebook : ℕ) (from : List ℕ) (y l l′ : ℕ) where
   days-more h o none = zero-le
   days-more h o (more {d} {d′} j rest) =
       let q : eqb (year (d′ .date)) y ≡ eqb (year (d .date)) y = ap (λ (n : ℕ). eqb (year n) y) (j .date) in
-      let m : pick (eqb (year (d .date)) y && offenceOn l d) 1 0 ≤ pick (eqb (year (d′ .date)) y && offenceOn l′ d′) 1 0 =
+      let m : pick (eqb (year (d .date)) y && offenceOn l d) 1 0 ≤ pick (eqb (year (d′ .date)) y && offenceOn l′ d′) 1
+      0 =
       rw q (pick-more (eqb (year (d .date)) y) (offenceOn l d) (offenceOn l′ d′)
       (h d d′ (ap kindsOf (o .0)) (j .records) (j .tables))) in
       omega (arith, days-more h (o .1) rest)
 
 -- a ladder with no offence after the join has no offence day
 days-none : (a b rulebook : ℕ) (from : List ℕ) (y l : ℕ)
-    → ((d d′ : PastDay) → kindsOn (d .tables) ≡ kindsOf rulebook → Joined a b (d .tables) (d′ .tables) → offenceOn l d′ ≡ false)
-    → {days days′ : List PastDay} → OfRulebook rulebook days → DaysJoined a b from days days′ → offenceDays y l days′ ≡ 0
+    → ((d d′ : PastDay) → kindsOn (d .tables) ≡ kindsOf rulebook → Joined a b (d .tables) (d′ .tables)
+    → offenceOn l d′ ≡ false)
+    → {days days′ : List PastDay} → OfRulebook rulebook days → DaysJoined a b from days days′ → offenceDays y l days′
+    ≡ 0
 unfolding offenceDays howMany OfRulebook
 days-none a b rulebook from y l h o none = refl
 days-none a b rulebook from y l h o (more {d} {d′} j rest) =
     let q : _≡_ {A = ℕ} (pick (eqb (year (d′ .date)) y && offenceOn l d′) 1 0) 0 =
-    sym (pick-no _ _ _ _ (and-no-right (eqb (year (d′ .date)) y) (offenceOn l d′) (h d d′ (ap kindsOf (o .0)) (j .tables))) refl) in
+    sym (pick-no _ _ _ _ (and-no-right (eqb (year (d′ .date)) y) (offenceOn l d′)
+    (h d d′ (ap kindsOf (o .0)) (j .tables))) refl) in
     omega (arith, days-none a b rulebook from y l h (o .1) rest)
 
 -- another group's ladder has the same
-module _ (a b rulebook : ℕ) (two : Two a b) (from : List ℕ) (y l : ℕ) (o : Other a b (groupAt (kindsOf rulebook) l)) where
-  day-other : (d d′ : PastDay) → kindsOn (d .tables) ≡ kindsOf rulebook → d′ .records ≡ d .records
-      → Joined a b (d .tables) (d′ .tables) → offenceOn l d′ ≡ offenceOn l d
-  day-other d d′ e records tables =
-      let kinds = kindsOf rulebook in
-      on-kinds kinds l d′ (kinds-joined tables ∙ e)
-      ∙ ap (λ rs. offence (d′ .tables) rs (groupAt kinds l) (kindAt kinds l) (familyAt l)) records
-      ∙ offence-other a b (d .tables) (d′ .tables) tables (two .first-a) (two .differ) (d .records)
-      (groupAt kinds l) (kindAt kinds l) (familyAt l) (o .not-a) (o .not-b)
-      ∙ sym (on-kinds kinds l d e)
+module _ (a b rulebook : ℕ) (two : Two a b) (from : List ℕ) (y l : ℕ) (o : Other a b (groupAt (kindsOf rulebook) l))
+  where
+    day-other : (d d′ : PastDay) → kindsOn (d .tables) ≡ kindsOf rulebook → d′ .records ≡ d .records
+        → Joined a b (d .tables) (d′ .tables) → offenceOn l d′ ≡ offenceOn l d
+    day-other d d′ e records tables =
+        let kinds = kindsOf rulebook in
+        on-kinds kinds l d′ (kinds-joined tables ∙ e)
+        ∙ ap (λ rs. offence (d′ .tables) rs (groupAt kinds l) (kindAt kinds l) (familyAt l)) records
+        ∙ offence-other a b (d .tables) (d′ .tables) tables (two .first-a) (two .differ) (d .records)
+        (groupAt kinds l) (kindAt kinds l) (familyAt l) (o .not-a) (o .not-b)
+        ∙ sym (on-kinds kinds l d e)
 
-  days-other : {days days′ : List PastDay} → OfRulebook rulebook days → DaysJoined a b from days days′
-      → offenceDays y l days′ ≡ offenceDays y l days
-  unfolding offenceDays howMany OfRulebook
-  days-other u none = refl
-  days-other u (more {d} {d′} j rest) =
-      ap₂ (λ (x n : ℕ). x + n)
-      (ap₂ (λ (m : ℕ) (o : Bool). pick (eqb (year m) y && o) 1 0) (j .date)
-      (day-other d d′ (ap kindsOf (u .0)) (j .records) (j .tables))) (days-other (u .1) rest)
+    days-other : {days days′ : List PastDay} → OfRulebook rulebook days → DaysJoined a b from days days′
+        → offenceDays y l days′ ≡ offenceDays y l days
+    unfolding offenceDays howMany OfRulebook
+    days-other u none = refl
+    days-other u (more {d} {d′} j rest) =
+        ap₂ (λ (x n : ℕ). x + n)
+        (ap₂ (λ (m : ℕ) (o : Bool). pick (eqb (year m) y && o) 1 0) (j .date)
+        (day-other d d′ (ap kindsOf (u .0)) (j .records) (j .tables))) (days-other (u .1) rest)
 
 -- ---- the two histories with their books, on a book that carries nothing
 -- the kinds of the book that the days stand on
@@ -132,13 +140,15 @@ pub record Years (a b : ℕ) (h h′ : History) (book book′ : List ℕ) : Type
   pub days : DaysJoined a b (h .from) (h .days) (h′ .days)
 
 -- both begin with a fresh book
-pub years-fresh : (a b rulebook : ℕ) {book book′ : List ℕ} → Kept (blank rulebook) [] book → Kept (blank rulebook) [] book′
+pub years-fresh : (a b rulebook : ℕ) {book book′ : List ℕ} → Kept (blank rulebook) [] book
+    → Kept (blank rulebook) [] book′
     → Years a b (record { from = blank rulebook; days = [] }) (record { from = blank rulebook; days = [] }) book book′
 years-fresh a b rulebook k k′ = record {
   kept = k;
   kept′ = k′;
   same = refl;
-  nothing = λ y l less. blank-carries rulebook y l (subst (λ (r : ℕ). l < ladders (kindsOf r)) (blank-rulebook rulebook) less);
+  nothing = λ y l less. blank-carries rulebook y l
+      (subst (λ (r : ℕ). l < ladders (kindsOf r)) (blank-rulebook rulebook) less);
   days = none;
 }
 
@@ -168,7 +178,8 @@ module _ (a b : ℕ) (two : Two a b) (h h′ : History) (book book′ : List ℕ
   unfolding fitsFault
   book-same rulebook date =
       let f : Bool → ℕ → ℕ → ℕ = λ s r d. pick (not s) 17 (pick (not (eqb r rulebook)) 18 (pick (leb date d) 9 0)) in
-      ap (λ (s : Bool). f s (rulebookOf book′) (lastDate book′)) sound-same ∙ ap₂ (f (sound book)) rulebook-same dates-same
+      ap (λ (s : Bool). f s (rulebookOf book′) (lastDate book′)) sound-same
+      ∙ ap₂ (f (sound book)) rulebook-same dates-same
 
   -- each total is the number of offence days in one year, the same for both
   abbrev lastYear : ℕ
@@ -181,10 +192,12 @@ module _ (a b : ℕ) (two : Two a b) (h h′ : History) (book book′ : List ℕ
   joined-days : (l : ℕ) → l < ladders (kindsFrom h) → totalAt book′ l ≡ offenceDays lastYear l (h′ .days)
   unfolding totalOver
   joined-days l less =
-      let e = joined-kept .total l less ∙ ap (λ (n : ℕ). totalOver (h .from) (year n) l (h′ .days)) (last-same (s .days)) in
+      let e = joined-kept .total l less ∙ ap (λ (n : ℕ). totalOver (h .from) (year n) l (h′ .days))
+      (last-same (s .days)) in
       omega (arith, e, s .nothing lastYear l less)
 
-  pub total-same : (l : ℕ) → l < ladders (kindsFrom h) → Other a b (groupAt (kindsFrom h) l) → totalAt book′ l ≡ totalAt book l
+  pub total-same : (l : ℕ) → l < ladders (kindsFrom h) → Other a b (groupAt (kindsFrom h) l) → totalAt book′ l
+      ≡ totalAt book l
   total-same l less o =
       joined-days l less ∙ days-other a b (rulebookOf (h .from)) two (h .from) lastYear l o (s .kept .ours) (s .days)
       ∙ sym (total-days l less)
@@ -241,12 +254,14 @@ module _ (a b : ℕ) (two : Two a b) (h h′ : History) (book book′ : List ℕ
       stays = stays;
       others =
           λ l less o.
-          ap₂ (λ (d : ℕ) (x : List ℕ). foundAt (dayVerdict t′ rs) d x l) (ap (λ (x : Header). x .date) head) (sym (joined-kept .is))
+          ap₂ (λ (d : ℕ) (x : List ℕ). foundAt (dayVerdict t′ rs) d x l) (ap (λ (x : Header). x .date) head)
+          (sym (joined-kept .is))
           ∙ found-others l less o ∙ ap (λ (x : List ℕ). foundAt (dayVerdict t rs) date x l) (s .kept .is);
       gone = λ l less is-a. found-none a b t t′ tables (two .first-a) (two .differ) rs l is-a _ _;
     }
       where
-        stays : (kind family : ℕ) → (offence t rs a kind family ≡ true) ⊎ (offence t rs b kind family ≡ true) → offence t′ rs b kind family ≡ true
+        stays : (kind family : ℕ) → (offence t rs a kind family ≡ true) ⊎ (offence t rs b kind family ≡ true)
+            → offence t′ rs b kind family ≡ true
         stays kind family (inl o) = offence-a a b t t′ tables (two .first-a) (two .differ) rs kind family o
         stays kind family (inr o) = offence-b a b t t′ tables (two .first-a) (two .differ) rs kind family o
 
@@ -254,7 +269,8 @@ module _ (a b : ℕ) (two : Two a b) (h h′ : History) (book book′ : List ℕ
         (bookAfter (dayVerdict t rs) date book) (bookAfter (dayVerdict t′ rs) (headerOf (joinLog a b log) .date) book′)
     years-day = record {
       kept = kept-day (h .from) (h .days) log book rs (s .kept) (ready log book e f);
-      kept′ = kept-day (h′ .from) (h′ .days) (joinLog a b log) book′ rs (s .kept′) (ready (joinLog a b log) book′ fault′ allowed);
+      kept′ = kept-day (h′ .from) (h′ .days) (joinLog a b log) book′ rs (s .kept′)
+          (ready (joinLog a b log) book′ fault′ allowed);
       same = s .same;
       nothing = s .nothing;
       days = more day-joined (s .days);
@@ -269,7 +285,8 @@ module _ (a b : ℕ) (two : Two a b) (h h′ : History) (book book′ : List ℕ
   on-ladder g k f i d e =
       let l = ladderOf kinds g k f in
       on-kinds kinds l d e
-      ∙ ap₂ (λ (x y : ℕ). offence (d .tables) (d .records) x y (familyAt l)) (group-of kinds g k f (i .row) (i .last-family))
+      ∙ ap₂ (λ (x y : ℕ). offence (d .tables) (d .records) x y (familyAt l))
+      (group-of kinds g k f (i .row) (i .last-family))
       (kind-of kinds g k f (i .row) (i .last-family))
       ∙ ap (offence (d .tables) (d .records) g k) (family-of kinds g k f (i .last-family))
 
@@ -285,7 +302,8 @@ module _ (a b : ℕ) (two : Two a b) (h h′ : History) (book book′ : List ℕ
     last-family = i .last-family;
   }
 
-  -- group g's offences of a kind in a family stay as b's: then b has no fewer days, and a third of no fewer is no fewer
+  -- group g's offences of a kind in a family stay as b's: then b has no fewer days, and a third of no fewer is no
+  -- fewer
   no-fewer : (g kind family : ℕ) → HasLadder kinds g kind family
       → ((d d′ : PastDay) → Joined a b (d .tables) (d′ .tables) → offence (d .tables) (d .records) g kind family ≡ true
       → offence (d′ .tables) (d .records) b kind family ≡ true)
@@ -305,7 +323,11 @@ module _ (a b : ℕ) (two : Two a b) (h h′ : History) (book book′ : List ℕ
         totals = rw (total-days lg there, joined-days lb there-b) (more-days lastYear);
         restricted =
             λ y.
-            rw (third (h .from) y lg (s .nothing y lg there) (h .days), third (h .from) y lb (s .nothing y lb there-b) (h′ .days))
+            rw (
+              third (h .from) y lg (s .nothing y lg there) (h .days),
+              third (h .from) y lb (s .nothing y lb there-b)
+                  (h′ .days),
+            )
             (fewer _ _ (more-days y));
       }
 
@@ -314,7 +336,8 @@ module _ (a b : ℕ) (two : Two a b) (h h′ : History) (book book′ : List ℕ
   none-on l is-a d d′ k j =
       on-kinds kinds l d′ (kinds-joined j ∙ k)
       ∙ ap (λ (g : ℕ). offence (d′ .tables) (d′ .records) g (kindAt kinds l) (familyAt l)) is-a
-      ∙ offence-none a b (d .tables) (d′ .tables) j (two .first-a) (two .differ) (d′ .records) (kindAt kinds l) (familyAt l)
+      ∙ offence-none a b (d .tables) (d′ .tables) j (two .first-a) (two .differ) (d′ .records) (kindAt kinds l)
+      (familyAt l)
 
   pub year-joined : YearJoined kinds a b (h .from) book book′ (h .days) (h′ .days)
   year-joined = record {

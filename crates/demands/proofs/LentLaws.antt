@@ -19,7 +19,8 @@ use Rattle.counts.specs.Weigh.{planIn}
 use Rattle.desk.specs.Take.{takeFault}
 use Rattle.desk.specs.Open.{kindsFor, openFault, handedFault, zeroed}
 use Rattle.desk.proofs.HandedLaws.{room-there}
-use Rattle.demands.specs.Calls.{Step, Desk, Given, Gives, fresh-gives, open-gives, take-gives, end-gives, abandon-gives, ask-gives, lend-gives, Ran, none, next, left}
+use Rattle.demands.specs.Calls.{Step, Desk, Given, Gives, fresh-gives, open-gives, take-gives, end-gives}
+use Rattle.demands.specs.Calls.{abandon-gives, ask-gives, lend-gives, Ran, none, next, left}
 use Rattle.demands.specs.Paper.{Course, idle, during, Paper, takeNumber, openRuled, takeRuled, rule}
 use Rattle.demands.specs.Lent.{latest, lastOpened, mostCells, CountsHold}
 use Rattle.demands.specs.Demand2.{CellsCounted}
@@ -44,7 +45,8 @@ past-most : (log old c : List ℕ) → length c ≡ length old
     → drop (cells (kindsFor (headerOf log))) c ≡ drop (cells (kindsFor (headerOf log))) old → Past old c
 past-most log old c n e = record {
   long = n;
-  past = later (cells (kindsFor (headerOf log))) mostCells c old (omega (arith, kinds-most (headerOf log .rulebook))) e;
+  past = later (cells (kindsFor (headerOf log))) mostCells c old (omega (arith, kinds-most (headerOf log .rulebook)))
+      e;
 }
 
 -- nothing; or, where it leaves a day open, nothing past the cells
@@ -98,7 +100,8 @@ module _ (log c book out : List ℕ) where
             within (past-most log c more (raised-room log rs c r a f) (raised-rest log rs c r a f))
         go false e = nothing
 
-writes : {w : Desk} {p : Paper} {c : Step} {g : Given} → Stands w p → Gives w c g → Writes (rule p (p .course) c .after .course) (w .counts) (g .after .counts)
+writes : {w : Desk} {p : Paper} {c : Step} {g : Given} → Stands w p → Gives w c g
+    → Writes (rule p (p .course) c .after .course) (w .counts) (g .after .counts)
 unfolding rule openFault takeFault pick
 writes s (fresh-gives m) = nothing
 writes s (end-gives m) = nothing
@@ -120,7 +123,8 @@ held-past : (last : Course) (lent c : List ℕ) → CountsHold last lent c → P
 held-past idle lent c e = rw e (record { long = refl; past = refl })
 held-past (during log rs) lent c h = record { long = h .long; past = h .past }
 
-held : {w : Desk} {p : Paper} {c : List ℕ} (last : Course) (lent : List ℕ) → Stands w p → Writes (p .course) c (w .counts) → CountsHold last lent c
+held : {w : Desk} {p : Paper} {c : List ℕ} (last : Course) (lent : List ℕ) → Stands w p
+    → Writes (p .course) c (w .counts) → CountsHold last lent c
     → CountsHold (latest (p .course) last) lent (w .counts)
 held last lent (rest n) nothing h = h
 held {c = c} last lent (busy n a) x h =

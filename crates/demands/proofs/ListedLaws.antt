@@ -13,7 +13,8 @@ use Rattle.wire.specs.Below.{count, first}
 use Rattle.wire.specs.Bytes.{bytes}
 use Rattle.wire.specs.Buffers.{rows}
 use Rattle.wire.proofs.KeptLaws.{part-at, kept-length, kept-at}
-use Rattle.wire.proofs.BelowLaws.{count-le, first-below, first-some, Passes, Passed, count-below, count-rises, passed, first-passes}
+use Rattle.wire.proofs.BelowLaws.{count-le, first-below, first-some, Passes, Passed, count-below, count-rises, passed}
+use Rattle.wire.proofs.BelowLaws.{first-passes}
 use Rattle.rules.specs.declared.kinds.Kinds.{Kinds}
 use Rattle.rules.proofs.KindLaws.{kinds-most}
 use Rattle.places.specs.Places.{ladders, groupAt, kindAt, familyAt}
@@ -58,7 +59,8 @@ named-by : (kinds : Kinds) (bs : List ℕ) (j ladder sanction′ total id : ℕ)
     → take 8 (drop (8 * j) bs) ≡ finding kinds ladder sanction′ total id → ladderIn kinds bs j ≡ ladder
 unfolding finding
 named-by kinds bs j ladder sanction′ total id e =
-    let g : getD bs (8 * j) 0 ≡ groupAt kinds ladder = part-at 8 (8 * j) (8 * j) 0 bs _ e (omega arith) (omega arith) in
+    let g : getD bs (8 * j) 0 ≡ groupAt kinds ladder = part-at 8 (8 * j) (8 * j) 0 bs _ e (omega arith)
+    (omega arith) in
     let k : getD bs (8 * j + 1) 0 ≡ kindAt kinds ladder = part-at 8 (8 * j) (8 * j + 1) 1 bs _ e refl (omega arith) in
     let f : getD bs (8 * j + 2) 0 ≡ familyAt ladder = part-at 8 (8 * j) (8 * j + 2) 2 bs _ e refl (omega arith) in
     rw (g, k, f) (ladder-of kinds ladder)

@@ -41,7 +41,8 @@ or-zero a = go (eqb a 0) refl
     go false e = or-first a 0 (eqb-false a 0 e)
 
 -- on a book that the opening accepted, and with full room for findings, only the record itself can be refused
-pub end-plain : (log : List ℕ) (rs : List Record) (row book : List ℕ) (room : ℕ) → eqb (length row) (rowSize log) ≡ true
+pub end-plain : (log : List ℕ) (rs : List Record) (row book : List ℕ) (room : ℕ) → eqb (length row) (rowSize log)
+    ≡ true
     → bookFault (headerOf log .rulebook) (headerOf log .date) book ≡ 0 → fullRoom ≤ room
     → endRefusal log rs row book room ≡ rowFault (dayIn log rs) row
 unfolding endRefusal shortFault
@@ -82,7 +83,8 @@ module _ (log : List ℕ) (rs : List Record) where
     records-take t = pick-no _ _ _ _ t refl
 
 -- ---- the steps: their number, and how the desk stands where it is 0
-pub call-number : {w : Desk} {p : Paper} {c : Step} {g : Given} → Stands w p → Gives w c g → numberIn (g .reply) ≡ refusal p (p .course) c
+pub call-number : {w : Desk} {p : Paper} {c : Step} {g : Given} → Stands w p → Gives w c g → numberIn (g .reply)
+    ≡ refusal p (p .course) c
 call-number {p = p} {c = c} s g = ap numberIn (step s g .reply) ∙ number-is p (p .course) c
 
 -- what is in the book and in the findings buffer of a desk
@@ -100,7 +102,8 @@ Wrote log book out rs w =
 stands-holds : {w : Desk} {p : Paper} → Stands w p → Holds (p .book) (p .out) w
 stands-holds s = record { in-book = stands-book s; in-out = stands-out s }
 
-module _ {w : Desk} {log : List ℕ} {book out : List ℕ} {room : ℕ} {g : Given} (s : Stands w (paper idle book out room)) (m : Gives w (openDay log) g) where
+module _ {w : Desk} {log : List ℕ} {book out : List ℕ} {room : ℕ} {g : Given}
+    (s : Stands w (paper idle book out room)) (m : Gives w (openDay log) g) where
   open-number : numberIn (g .reply) ≡ handedFault log book room
   unfolding refusal
   open-number = call-number s m
@@ -108,13 +111,16 @@ module _ {w : Desk} {log : List ℕ} {book out : List ℕ} {room : ℕ} {g : Giv
   open-stands : handedFault log book room ≡ 0 → Stands (g .after) (paper (during log []) book out room)
   open-stands z = subst (Stands (g .after)) (sym (after-open (paper idle book out room) log z)) (step s m .after)
 
-module _ {w : Desk} {log : List ℕ} {rs : List Record} {book out : List ℕ} {room : ℕ} (row : List ℕ) {g : Given} (s : Stands w (paper (during log rs) book out room)) where
+module _ {w : Desk} {log : List ℕ} {rs : List Record} {book out : List ℕ} {room : ℕ} (row : List ℕ) {g : Given}
+    (s : Stands w (paper (during log rs) book out room)) where
   take-number : Gives w (takeRecord row) g → numberIn (g .reply) ≡ takeNumber log rs row
   unfolding refusal
   take-number m = call-number s m
 
-  take-stands : Gives w (takeRecord row) g → takeNumber log rs row ≡ 0 → Stands (g .after) (paper (during log (recordOf row ∷ rs)) book out room)
-  take-stands m z = subst (Stands (g .after)) (sym (after-take (paper (during log rs) book out room) log rs row z)) (step s m .after)
+  take-stands : Gives w (takeRecord row) g → takeNumber log rs row ≡ 0
+      → Stands (g .after) (paper (during log (recordOf row ∷ rs)) book out room)
+  take-stands m z = subst (Stands (g .after)) (sym (after-take (paper (during log rs) book out room) log rs row z))
+      (step s m .after)
 
   pub end-number : Gives w (endDay row) g → numberIn (g .reply) ≡ endRefusal log rs row book (length out)
   unfolding refusal
@@ -122,7 +128,9 @@ module _ {w : Desk} {log : List ℕ} {rs : List Record} {book out : List ℕ} {r
 
   pub end-holds : Gives w (endDay row) g → endRefusal log rs row book (length out) ≡ 0
       → Wrote log book out rs (g .after)
-  end-holds m z = stands-holds (subst (Stands (g .after)) (sym (after-end (paper (during log rs) book out room) log rs row z)) (step s m .after))
+  end-holds m z =
+      stands-holds (subst (Stands (g .after)) (sym (after-end (paper (during log rs) book out room) log rs row z))
+      (step s m .after))
 
 -- ---- a log
 -- the number is the rules', and where it is 0 the book and the findings are those of the day with these records
@@ -131,7 +139,8 @@ pub record Read (log book out : List ℕ) (n number : ℕ) (rs : List Record) (w
   pub written : n ≡ 0
       → Wrote log book out rs w
 
-read-of : {log book out : List ℕ} {n number : ℕ} {rs rs′ : List Record} {w : Desk} → rs ≡ rs′ → Read log book out n number rs w
+read-of : {log book out : List ℕ} {n number : ℕ} {rs rs′ : List Record} {w : Desk} → rs ≡ rs′
+    → Read log book out n number rs w
     → Read log book out n number rs′ w
 read-of {log} {book} {out} {n} {number} {w = w} e q = subst (λ (x : List Record). Read log book out n number x w) e q
 
@@ -155,7 +164,8 @@ module _ (log book out : List ℕ) (room : ℕ) (b : bookFault (headerOf log .ru
       → endRefusal log rs row book (length out) ≡ rowFault (dayIn log rs) row
   plain rs row s e = end-plain log rs row book (length out) (sized row true s e) b l
 
-  reads : {w w′ : Desk} {rows : List (List ℕ)} {n : ℕ} (rs : List Record) → Stands w (paper (during log rs) book out room) → Reads w rows n w′
+  reads : {w w′ : Desk} {rows : List (List ℕ)} {n : ℕ} (rs : List Record)
+      → Stands w (paper (during log rs) book out room) → Reads w rows n w′
       → Read log book out n (rowsNumber log rs rows) (recordsIn rs rows) w′
   reads rs s stops = record { same = rows-stop log rs; written = λ z. absurd (omega arith) }
   reads rs s (cut {row = row} {more = more} e) =
@@ -229,7 +239,8 @@ pick-where n m a a′ b e h = go (eqb n 0) refl
     go false q = sym (pick-no _ _ _ _ q refl) ∙ pick-no _ _ _ _ (sym both ∙ q) refl
 
 same-judged : {n n′ : ℕ} {printed printed′ book book′ : List ℕ} → n ≡ n′ → printed ≡ printed′ → book ≡ book′
-    → _≡_ {A = Judged} (record { number = n; printed = printed; book = book }) (record { number = n′; printed = printed′; book = book′ })
+    → _≡_ {A = Judged} (record { number = n; printed = printed; book = book })
+    (record { number = n′; printed = printed′; book = book′ })
 same-judged p q r = rw (p, q, r)
 
 file-is : {n : ℕ} {w : Desk} (book log : List ℕ) → Judges book log n w → fileAfter book n w ≡ ruledFile book log
@@ -244,11 +255,13 @@ printed-is {n} book log j =
     let q = judges book log j in
     pick-where n (logNumber book log) _ _ [] (q .same) (λ z. q .written z .in-out)
 
-judges-all : {book : List ℕ} {logs : List (List ℕ)} {js : List Judged} → JudgesAll book logs js → js ≡ ruledLogs book logs
+judges-all : {book : List ℕ} {logs : List (List ℕ)} {js : List Judged} → JudgesAll book logs js
+    → js ≡ ruledLogs book logs
 unfolding ruledLogs
 judges-all no-log = refl
 judges-all (one-log {book = book} {log = log} {logs = logs} j r) =
-    ap₂ {C = List Judged} (λ x xs. x ∷ xs) (same-judged (judges book log j .same) (printed-is book log j) (file-is book log j))
+    ap₂ {C = List Judged} (λ x xs. x ∷ xs) (same-judged (judges book log j .same) (printed-is book log j)
+    (file-is book log j))
     (judges-all r ∙ ap (λ (b : List ℕ). ruledLogs b logs) (file-is book log j))
 
 pub judges-ruled : LogsRuled

@@ -34,8 +34,10 @@ use Rattle.desk.specs.Books.{freshFault, askFault, askAnswer}
 use Rattle.counts.specs.Counting.{fieldsFault}
 use Rattle.desk.specs.Open.{fewFault, handedFault}
 use Rattle.desk.specs.End.{endNumber, rowFault}
-use Rattle.demands.specs.Calls.{Step, makeBook, openDay, takeRecord, endDay, abandonDay, askBook, lendFindings, numberIn}
-use Rattle.demands.specs.Paper.{Course, idle, during, Paper, dayIn, takeNumber, endRefusal, movedBy, openRuled, takeRuled, endRuled, rule}
+use Rattle.demands.specs.Calls.{Step, makeBook, openDay, takeRecord, endDay, abandonDay, askBook, lendFindings}
+use Rattle.demands.specs.Calls.{numberIn}
+use Rattle.demands.specs.Paper.{Course, idle, during, Paper, dayIn, takeNumber, endRefusal, movedBy, openRuled}
+use Rattle.demands.specs.Paper.{takeRuled, endRuled, rule}
 
 -- ---- the number that an answer has
 pub answered-number : (fault : ℕ) (next : State) → numberOf (movedBy fault next) ≡ fault

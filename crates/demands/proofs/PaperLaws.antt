@@ -1,5 +1,5 @@
--- What a step leaves on the paper: a refused one everything, an accepted one what the rules say, and each the buffers' room.
--- Assumes nothing.
+-- What a step leaves on the paper: a refused one everything, an accepted one what the rules say, and each the
+-- buffers' room. Assumes nothing.
 use mathlib.Core.Path.{_≡_, refl, sym}
 use mathlib.Core.Bool.{Bool, true, false}
 use mathlib.Core.List.{List, [], _∷_}
@@ -21,8 +21,10 @@ use Rattle.desk.specs.Books.{freshFault}
 use Rattle.desk.specs.Open.{handedFault}
 use Rattle.demands.specs.Counts.{timesOn, dayVerdict}
 use Rattle.demands.specs.Days.{endedDay}
-use Rattle.demands.specs.Calls.{Step, makeBook, openDay, takeRecord, endDay, abandonDay, askBook, lendFindings, fullRoom}
-use Rattle.demands.specs.Paper.{Course, idle, during, Paper, takeNumber, endRefusal, freshBook, at, resting, openRuled, takeRuled, endRuled, rule}
+use Rattle.demands.specs.Calls.{Step, makeBook, openDay, takeRecord, endDay, abandonDay, askBook, lendFindings}
+use Rattle.demands.specs.Calls.{fullRoom}
+use Rattle.demands.specs.Paper.{Course, idle, during, Paper, takeNumber, endRefusal, freshBook, at, resting}
+use Rattle.demands.specs.Paper.{openRuled, takeRuled, endRuled, rule}
 use Rattle.demands.specs.Demand2.{History, recorded}
 use Rattle.demands.specs.Demand3.{roomy}
 use Rattle.demands.proofs.NumberLaws.{refusal}
@@ -35,7 +37,8 @@ either P true q p y n = y
 either P false q p y n = n
 
 -- ---- a refused step
-pub kept-fresh : (book : List ℕ) (rulebook : ℕ) → eqb (freshFault (length book) rulebook) 0 ≡ false → freshBook book rulebook ≡ book
+pub kept-fresh : (book : List ℕ) (rulebook : ℕ) → eqb (freshFault (length book) rulebook) 0 ≡ false
+    → freshBook book rulebook ≡ book
 unfolding freshBook
 kept-fresh book rulebook e = sym (pick-no _ _ _ _ e refl)
 
@@ -56,7 +59,8 @@ module _ (p : Paper) (h : History) where
   refused-leaves idle (endDay row) f = record { paper = refl; days = refl }
   refused-leaves idle abandonDay f = record { paper = refl; days = refl }
   refused-leaves (during log rs) (openDay other) f = record { paper = refl; days = refl }
-  refused-leaves (during log rs) (takeRecord row) f = record { paper = sym (pick-no _ _ _ _ (ne-eqb _ 0 f) refl); days = refl }
+  refused-leaves (during log rs) (takeRecord row) f =
+      record { paper = sym (pick-no _ _ _ _ (ne-eqb _ 0 f) refl); days = refl }
   refused-leaves (during log rs) (endDay row) f =
       record { paper = sym (pick-no _ _ _ _ (ne-eqb _ 0 f) refl); days = sym (pick-no _ _ _ _ (ne-eqb _ 0 f) refl) }
   refused-leaves (during log rs) abandonDay f = absurd (f refl)
@@ -72,14 +76,16 @@ pub after-take : (p : Paper) (log : List ℕ) (rs : List Record) (row : List ℕ
 unfolding rule takeRuled
 after-take p log rs row e = pick-yes _ _ _ _ (eq-eqb _ 0 e) refl
 
-pub after-end : (p : Paper) (log : List ℕ) (rs : List Record) (row : List ℕ) → endRefusal log rs row (p .book) (length (p .out)) ≡ 0
+pub after-end : (p : Paper) (log : List ℕ) (rs : List Record) (row : List ℕ) → endRefusal log rs row (p .book)
+    (length (p .out)) ≡ 0
     → resting p (bookAfter (dayVerdict (tablesOf log) rs) (headerOf log .date) (p .book))
     (put (p .out) 0 (findings (dayVerdict (tablesOf log) rs) (headerOf log .date) (p .book)))
     ≡ rule p (during log rs) (endDay row) .after
 unfolding rule endRuled
 after-end p log rs row e = pick-yes _ _ _ _ (eq-eqb _ 0 e) refl
 
-pub recorded-end : (p : Paper) (log : List ℕ) (rs : List Record) (row : List ℕ) (h : History) → endRefusal log rs row (p .book) (length (p .out)) ≡ 0
+pub recorded-end : (p : Paper) (log : List ℕ) (rs : List Record) (row : List ℕ) (h : History)
+    → endRefusal log rs row (p .book) (length (p .out)) ≡ 0
     → recorded p (during log rs) (endDay row) h ≡ record { from = h .from; days = endedDay log rs ∷ h .days }
 unfolding recorded
 recorded-end p log rs row h e = sym (pick-yes _ _ _ _ (eq-eqb _ 0 e) refl)

@@ -1,4 +1,5 @@
--- Opening restrictions on a ladder are a third of its offence days: the third, the sixth and so on have one each. Assumes nothing.
+-- Opening restrictions on a ladder are a third of its offence days: the third, the sixth and so on have one each.
+-- Assumes nothing.
 use mathlib.Core.Path.{_≡_, refl, sym, ap, _∙_}
 use mathlib.Core.Bool.{Bool, true, false, not, _&&_}
 use mathlib.Core.List.{List, [], _∷_}
@@ -46,9 +47,15 @@ no-number text kind n = go (isKind kind) refl
     other m j = not-among (λ i. isRulebook i) (text .rulebook) j m
 
     go : (t : Bool) → isKind kind ≡ t
-        → pick (eqb (text .rulebook) 1) (byThree kind 5 500 400 0) (pick (eqb (text .rulebook) 2) (byThree kind 5 500 100 0) 0) ≡ 0
+        → pick (eqb (text .rulebook) 1) (byThree kind 5 500 400 0)
+        (pick (eqb (text .rulebook) 2) (byThree kind 5 500 100 0) 0) ≡ 0
     go false e =
-        rw (by-three-none kind 5 500 400 0 e, by-three-none kind 5 500 100 0 e, pick-same {A = ℕ} (eqb (text .rulebook) 2) 0)
+        rw (
+          by-three-none kind 5 500 400 0 e,
+          by-three-none kind 5 500 100 0 e,
+          pick-same {A = ℕ}
+              (eqb (text .rulebook) 2) 0,
+        )
         (pick-same {A = ℕ} (eqb (text .rulebook) 1) 0)
     go true e =
         let m : isRulebook (text .rulebook) ≡ false = rw e at n in
@@ -59,7 +66,8 @@ offence-judged : (t : Tables) (rs : List Record) (g k f : ℕ) → offence t rs 
 unfolding offence reachesOn
 offence-judged t rs g k f o = go (isKind k && isRulebook (t .text .rulebook)) refl
   where
-    go : (u : Bool) → isKind k && isRulebook (t .text .rulebook) ≡ u → isKind k && isRulebook (t .text .rulebook) ≡ true
+    go : (u : Bool) → isKind k && isRulebook (t .text .rulebook) ≡ u → isKind k && isRulebook (t .text .rulebook)
+        ≡ true
     go true e = e
     go false e =
         let none : offence t rs g k f ≡ false = some-none _ (t .contracts)
@@ -102,7 +110,8 @@ third-next n = go (eqb (rung (1 + n)) 3) refl
 
 -- one more day, an offence or not, on plain numbers
 step : (off m : Bool) (rulebook kind n : ℕ) → (off ≡ true → isKind kind && isRulebook rulebook ≡ true)
-    → pick (noOpening (pick off (sanction rulebook kind (rung (pick off 1 0 + n)) m) 0)) 1 0 + n / 3 ≡ (pick off 1 0 + n) / 3
+    → pick (noOpening (pick off (sanction rulebook kind (rung (pick off 1 0 + n)) m) 0)) 1 0 + n / 3
+    ≡ (pick off 1 0 + n) / 3
 unfolding pick
 step false m rulebook kind n j = omega arith
 step true m rulebook kind n j =
@@ -117,7 +126,8 @@ module _ (from : List ℕ) (y l : ℕ) (nothing : carried from y l ≡ 0) where
   days-next d days t e = rw e
 
   sanctions-next : (d : PastDay) (days : List PastDay) (t : Bool) → eqb (year (d .date)) y ≡ t
-      → restrictions from y l (d ∷ days) ≡ pick (t && noOpening (sanctionOn from l d days)) 1 0 + restrictions from y l days
+      → restrictions from y l (d ∷ days) ≡ pick (t && noOpening (sanctionOn from l d days)) 1 0 + restrictions from y
+      l days
   unfolding sanctions
   sanctions-next d days t e = rw e
 
@@ -129,7 +139,8 @@ module _ (from : List ℕ) (y l : ℕ) (nothing : carried from y l ≡ 0) where
   sanction-next : (d : PastDay) (days : List PastDay) → year (d .date) ≡ y
       → sanctionOn from l d days
       ≡ pick (offenceOn l d)
-      (sanction (d .tables .text .rulebook) (kindAt (kindsOn (d .tables)) l) (rung (pick (offenceOn l d) 1 0 + offenceDays y l days))
+      (sanction (d .tables .text .rulebook) (kindAt (kindsOn (d .tables)) l)
+      (rung (pick (offenceOn l d) 1 0 + offenceDays y l days))
       (memberOn (d .tables) (groupAt (kindsOn (d .tables)) l))) 0
   unfolding sanctionOn
   sanction-next d days e = rw (total-next d days e)
@@ -141,13 +152,15 @@ module _ (from : List ℕ) (y l : ℕ) (nothing : carried from y l ≡ 0) where
 
   -- one more day, of the year or not
   next-day : (d : PastDay) (days : List PastDay) (t : Bool) → eqb (year (d .date)) y ≡ t
-      → restrictions from y l days ≡ offenceDays y l days / 3 → restrictions from y l (d ∷ days) ≡ offenceDays y l (d ∷ days) / 3
+      → restrictions from y l days ≡ offenceDays y l days / 3 → restrictions from y l (d ∷ days) ≡ offenceDays y l
+      (d ∷ days) / 3
   next-day d days true e so =
       let kinds = kindsOn (d .tables) in
       rw (sanctions-next d days true e, days-next d days true e, sanction-next d days (eqb-true _ y e), so)
       (step (offenceOn l d) (memberOn (d .tables) (groupAt kinds l)) (d .tables .text .rulebook) (kindAt kinds l)
       (offenceDays y l days) (judged d))
-  next-day d days false e so = rw (sanctions-next d days false e, days-next d days false e, so) (unfold pick in omega arith)
+  next-day d days false e so = rw (sanctions-next d days false e, days-next d days false e, so)
+      (unfold pick in omega arith)
 
   pub third : (days : List PastDay) → restrictions from y l days ≡ offenceDays y l days / 3
   third [] = unfold sanctions offenceDays howMany in refl

@@ -1,5 +1,5 @@
--- The starred table holds. Its rows are computed, but for the two of a whole book: those follow from the laws of a book
--- that is written, as 12,304 bytes are too many to compute with. Assumes nothing.
+-- The starred table holds. Its rows are computed, but for the two of a whole book: those follow from the laws of a
+-- book that is written, as 12,304 bytes are too many to compute with. Assumes nothing.
 use mathlib.Core.Path.{_≡_, refl}
 use mathlib.Core.Bool.{Bool, true, false}
 use mathlib.Core.List.{List, [], _∷_}
@@ -50,7 +50,9 @@ unfolding starred allHold
 larges = refl
 
 offences : allHold (part 7 14) ≡ true
-unfolding starred allHold pick every some first byThree known exempt enough family accountOf contractOf hasAccount groupOf accountPlace contractPlace planFor planOf countsAs countsFor familyOf howMany timesOf reachesOn offence dayWith trade cancel selfTrades cancels cancelsOnTwo largeCancels
+unfolding starred allHold pick every some first byThree known exempt enough family accountOf contractOf hasAccount
+    groupOf accountPlace contractPlace planFor planOf countsAs countsFor familyOf howMany timesOf reachesOn offence
+    dayWith trade cancel selfTrades cancels cancelsOnTwo largeCancels
 offences = refl
 
 dates : allHold (part 21 2) ≡ true
@@ -68,7 +70,8 @@ unfolding starred allHold pick rung
 rungs = refl
 
 records : allHold (drop 29 starred) ≡ true
-unfolding starred allHold pick first known exempt accountOf contractOf hasAccount groupOf accountPlace contractPlace planFor planOf countsAs countsFor dayWith cancel cancelCounts
+unfolding starred allHold pick first known exempt accountOf contractOf hasAccount groupOf accountPlace contractPlace
+    planFor planOf countsAs countsFor dayWith cancel cancelCounts
 records = refl
 
 pub starred-hold : Starred

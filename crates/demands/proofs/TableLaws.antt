@@ -1,4 +1,5 @@
--- What is known of the tables in a log without fault: few contracts, groups in range; and of a record that they have. Assumes nothing.
+-- What is known of the tables in a log without fault: few contracts, groups in range; and of a record that they have.
+-- Assumes nothing.
 use mathlib.Core.Path.{_≡_, refl, sym}
 use mathlib.Core.Bool.{true, false, _&&_}
 use mathlib.Core.List.{List}
@@ -29,7 +30,8 @@ pub record Known (t : Tables) : Type 0 where
   pub first-group : (k : ℕ) → k < t .accounts → 1 ≤ t .account k .group
   pub last-group : (k : ℕ) → k < t .accounts → t .account k .group ≤ 128
 
-group-at : (s : List ℕ) → accountsGood s ≡ true → (k : ℕ) → k < entries s → (1 ≤ accountAt s k .group) × (accountAt s k .group ≤ 128)
+group-at : (s : List ℕ) → accountsGood s ≡ true → (k : ℕ) → k < entries s → (1 ≤ accountAt s k .group)
+    × (accountAt s k .group ≤ 128)
 unfolding accountsGood
 group-at s e k h =
     let rises = ltb (numberBefore s k) (accountAt s k .number) in
@@ -37,7 +39,8 @@ group-at s e k h =
     let kind = within 1 2 (accountAt s k .kind) in
     let spare = eqb (accountAt s k .spare) 0 in
     let good : rises && group && kind && spare ≡ true = every-at (accountGoodAt s) (entries s) k e h in
-    bounds 1 128 (accountAt s k .group) (and-right rises group (and-left (rises && group) kind (and-left (rises && group && kind) spare good)))
+    bounds 1 128 (accountAt s k .group)
+    (and-right rises group (and-left (rises && group) kind (and-left (rises && group && kind) spare good)))
 
 pub known-tables : (log : List ℕ) → logFault log ≡ 0 → Known (tablesOf log)
 unfolding tablesOf tablesIn
@@ -62,7 +65,8 @@ has-record t r e =
     let e3 = pick-zero _ 13 _ (lit< tt) (e2 .1) in
     record { contract = ltb-true _ _ (not-false _ (e2 .0)); account = ltb-true _ _ (not-false _ (e3 .0)) }
 
-pub group-is : (t : Tables) (number : ℕ) → accountOf t number < t .accounts → groupOf t number ≡ t .account (accountOf t number) .group
+pub group-is : (t : Tables) (number : ℕ) → accountOf t number < t .accounts → groupOf t number
+    ≡ t .account (accountOf t number) .group
 unfolding groupOf hasAccount
 group-is t number h = sym (pick-yes _ _ _ _ (lt-ltb (accountOf t number) (t .accounts) h) refl)
 
@@ -90,7 +94,8 @@ placed t o r h k low high =
     }
 
 -- and it counts on no place past the contracts
-pub none-past : (t : Tables) (r : Record) → Has t r → (group kind place : ℕ) → t .contracts ≤ place → countsFor t r group kind place ≡ false
+pub none-past : (t : Tables) (r : Record) → Has t r → (group kind place : ℕ) → t .contracts ≤ place
+    → countsFor t r group kind place ≡ false
 unfolding countsFor planOf planFor
 none-past t r h group kind place l =
     and-no-right (countsAs (planOf t r) kind && eqb (planOf t r .group) group) (eqb (contractOf t (r .contract)) place)

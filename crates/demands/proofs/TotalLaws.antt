@@ -32,7 +32,8 @@ use Rattle.verdict.specs.Verdict.{offends, finding, totalAfter, sanctionAt, fou
 use Rattle.desk.specs.Offences.{kindsOn, verdictOn}
 use Rattle.desk.proofs.EndKept.{after-is, kept-sound, kept-total, tables-rulebook}
 use Rattle.demands.specs.Counts.{howMany, timesOn, offenceAt, dayVerdict}
-use Rattle.demands.specs.Days.{PastDay, endedDay, offenceOn, offenceDays, lastOn, carried, totalOver, bookOver, blank}
+use Rattle.demands.specs.Days.{PastDay, endedDay, offenceOn, offenceDays, lastOn, carried, totalOver, bookOver}
+use Rattle.demands.specs.Days.{blank}
 use Rattle.demands.specs.Restrictions.{sanctionOn, Sanctioned, none, more}
 use Rattle.demands.proofs.DayLaws.{book-cong}
 use Rattle.demands.proofs.ListedLaws.{offends-is}
@@ -78,23 +79,35 @@ earliest from [] r = omega arith
 earliest from (d ∷ days) r = omega (arith, r .0, earliest from days (r .1))
 
 -- days of earlier years add nothing
-earlier-none : (from : List ℕ) (y l : ℕ) (days : List PastDay) → Rising from days → year (lastOn from days) < y → offenceDays y l days ≡ 0
+earlier-none : (from : List ℕ) (y l : ℕ) (days : List PastDay) → Rising from days → year (lastOn from days) < y
+    → offenceDays y l days ≡ 0
 unfolding offenceDays howMany lastOn Rising
 earlier-none from y l [] r h = refl
 earlier-none from y l (d ∷ days) r h =
     let q : _≡_ {A = ℕ} (pick (eqb (year (d .date)) y && offenceOn l d) 1 0) 0 =
-    sym (pick-no _ _ _ _ (and-no (eqb (year (d .date)) y) (offenceOn l d) (ne-eqb (year (d .date)) y (λ e. omega arith))) refl) in
-    omega (arith, earlier-none from y l days (r .1) (omega (arith, year-rises (lastOn from days) (d .date) (omega (arith, r .0)))))
+    sym (pick-no _ _ _ _ (and-no (eqb (year (d .date)) y) (offenceOn l d)
+    (ne-eqb (year (d .date)) y (λ e. omega arith))) refl) in
+    omega (
+      arith,
+      earlier-none from y l days (r .1)
+          (omega (arith, year-rises (lastOn from days) (d .date) (omega (arith, r .0)))),
+    )
 
 -- nor is anything carried into a later year
 carried-later : (from : List ℕ) (y l : ℕ) → year (lastDate from) < y → carried from y l ≡ 0
 unfolding carried
 carried-later from y l h = sym (pick-yes _ _ _ _ (lt-ltb _ _ h) refl)
 
-total-later : (from : List ℕ) (y l : ℕ) (days : List PastDay) → Rising from days → year (lastOn from days) < y → totalOver from y l days ≡ 0
+total-later : (from : List ℕ) (y l : ℕ) (days : List PastDay) → Rising from days → year (lastOn from days) < y
+    → totalOver from y l days ≡ 0
 unfolding totalOver
 total-later from y l days r h =
-    omega (arith, earlier-none from y l days r h, carried-later from y l (omega (arith, year-rises (lastDate from) (lastOn from days) (earliest from days r))))
+    omega (
+      arith,
+      earlier-none from y l days r h,
+      carried-later from y l
+          (omega (arith, year-rises (lastDate from) (lastOn from days) (earliest from days r))),
+    )
 
 -- ---- the book of the days, with what can be read from it
 pub record Kept (from : List ℕ) (days : List PastDay) (book : List ℕ) : Type 0 where
@@ -114,7 +127,11 @@ kept-none from good = record {
   is = refl;
   rulebook = refl;
   last = refl;
-  total = λ l h. omega (arith, pick-no _ _ 0 _ (le-ltb (year (lastDate from)) (year (lastDate from)) (omega arith)) (refl {a = totalAt from l}));
+  total = λ l h. omega (
+    arith,
+    pick-no _ _ 0 _ (le-ltb (year (lastDate from)) (year (lastDate from)) (omega arith))
+        (refl {a = totalAt from l}),
+  );
   rises = tt;
   ours = tt;
   sanctions = none;

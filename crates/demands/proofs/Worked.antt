@@ -54,7 +54,8 @@ use Rattle.demands.specs.Paper.{takeRuled, endRuled, rule, rules, number
 use Rattle.demands.specs.Logs.{clerkCounts}
 use Rattle.demands.specs.Worked.{tablesFor, workedTables, tradeOn, tradeRow, endRow, workedBook, workedDesk}
 use Rattle.demands.specs.Worked.{workedTrades, wholeDay, workedSteps, workedFinding, foundBy, Worked, noBook}
-use Rattle.demands.specs.Worked.{wrongMark, noBookSteps, justOpened, openSteps, shortOut, shortOutSteps, Refusals}
+use Rattle.demands.specs.Worked.{wrongMark, noBookSteps, justOpened, openSteps, shortOut, shortOutSteps}
+use Rattle.demands.specs.Worked.{Refusals}
 use Rattle.demands.proofs.CallLaws.{paper, stands-book, stands-out, runs-read, runs-stand}
 use Rattle.demands.proofs.NumberLaws.{refusal}
 use Rattle.demands.proofs.Answers.{answers}
@@ -84,14 +85,17 @@ unfolding headerOf le workedTables tablesFor
 head-is = (refl, refl, refl)
 
 log-good : logFault workedTables ≡ 0
-unfolding workedTables tablesFor logFault headFault entriesFault headerOf contractsGood accountsGood contractAt accountAt idBefore numberBefore realDay monthDays every le pick
+unfolding workedTables tablesFor logFault headFault entriesFault headerOf contractsGood accountsGood contractAt
+    accountAt idBefore numberBefore realDay monthDays every le pick
 log-good = refl
 
 -- on any book and buffers, every trade is taken
 trades-go : (book out : List ℕ) (len : ℕ)
     → Goes (paper (during workedTables []) book out len) workedTrades (0 ∷ 0 ∷ 0 ∷ 0 ∷ 0 ∷ []) (0 ∷ 0 ∷ 0 ∷ 0 ∷ 0 ∷ [])
     (paper (during workedTables workedRecords) book out len)
-unfolding workedTrades workedRecords workedTables tablesFor tradeOn numbersOn rules paperAfter rule takeRuled takeNumber fieldsFault hasContract hasAccount contractOf accountOf contractPlace accountPlace recordLength recordGood recordOf answered tablesOf tablesIn headerOf contractAt accountAt first le orElse pick
+unfolding workedTrades workedRecords workedTables tablesFor tradeOn numbersOn rules paperAfter rule takeRuled
+    takeNumber fieldsFault hasContract hasAccount contractOf accountOf contractPlace accountPlace recordLength
+    recordGood recordOf answered tablesOf tablesIn headerOf contractAt accountAt first le orElse pick
 trades-go book out len = record { numbers = refl; counts = refl; after = refl }
 
 -- ---- which ladders have an offence: that of group 3, kind 1, family 0 alone
@@ -106,7 +110,10 @@ test-is false false e = refl
 
 -- computed for each of the 6,144
 one-tested : every (λ l. pick (eqb l place) (offends verdict l) (not (offends verdict l))) (ladders (kindsOf 1)) ≡ true
-unfolding workedRecords workedTables tablesFor tradeOn kindsOf kindsIn firstKind verdictOn offends lowestOn lowest reachedAt familyOf timesOn timesOf howMany countsFor countsAs planOf planFor groupOf hasAccount contractOf accountOf contractPlace accountPlace recordOf tablesOf tablesIn headerOf contractAt accountAt family enough exempt known byThree first every le pick
+unfolding workedRecords workedTables tablesFor tradeOn kindsOf kindsIn firstKind verdictOn offends lowestOn lowest
+    reachedAt familyOf timesOn timesOf howMany countsFor countsAs planOf planFor groupOf hasAccount contractOf
+    accountOf contractPlace accountPlace recordOf tablesOf tablesIn headerOf contractAt accountAt family enough exempt
+    known byThree first every le pick
 one-tested = refl
 
 one-hit : (l : ℕ) → l < ladders (kindsOf 1) → offends verdict l ≡ eqb l place
@@ -166,7 +173,10 @@ textAt l total =
 
 -- computed by its total, as 12,304 bytes of book are too many
 text-is : textAt place 2 ≡ workedFinding
-unfolding workedFinding workedRecords workedTables tablesFor tradeOn kindsOf kindsIn firstKind finding bytes sanction rung memberOn hasMember verdictOn lowestOn lowest reachedAt familyOf timesOn timesOf howMany countsFor countsAs planOf planFor groupOf hasAccount contractOf accountOf contractPlace accountPlace recordOf tablesOf tablesIn headerOf contractAt accountAt family enough exempt known byThree first some every le pick
+unfolding workedFinding workedRecords workedTables tablesFor tradeOn kindsOf kindsIn firstKind finding bytes sanction
+    rung memberOn hasMember verdictOn lowestOn lowest reachedAt familyOf timesOn timesOf howMany countsFor countsAs
+    planOf planFor groupOf hasAccount contractOf accountOf contractPlace accountPlace recordOf tablesOf tablesIn
+    headerOf contractAt accountAt family enough exempt known byThree first some every le pick
 text-is = refl
 
 found-is : (l : ℕ) → l < ladders (kindsOf 1) → foundAt verdict 20240305 before l ≡ pick (eqb l place) workedFinding []
@@ -272,11 +282,17 @@ worked =
 -- ---- the refusals between
 -- computed, as the book has no bytes; and as no call here comes to the book
 no-book : numbersOn noBook noBookSteps ≡ 10 ∷ 10 ∷ 10 ∷ 17 ∷ 4 ∷ 17 ∷ 2 ∷ 17 ∷ []
-unfolding noBook noBookSteps wrongMark workedTables tablesFor numbersOn rules rule openRuled handedFault fitsFault soundAs dayShape kindsOf kindsIn logFault headFault entriesFault headerOf contractsGood accountsGood contractAt accountAt idBefore numberBefore realDay monthDays freshFaultAs freshBook askAnswerAs askFaultAs answered every le orElse pick
+unfolding noBook noBookSteps wrongMark workedTables tablesFor numbersOn rules rule openRuled handedFault fitsFault
+    soundAs dayShape kindsOf kindsIn logFault headFault entriesFault headerOf contractsGood accountsGood contractAt
+    accountAt idBefore numberBefore realDay monthDays freshFaultAs freshBook askAnswerAs askFaultAs answered every le
+    orElse pick
 no-book = refl
 
 day-open : (p : Paper) → numbersOn (justOpened p) openSteps ≡ 10 ∷ 1 ∷ 11 ∷ 12 ∷ 13 ∷ 0 ∷ 15 ∷ 0 ∷ 10 ∷ []
-unfolding justOpened openSteps workedTables tablesFor tradeOn endRow numbersOn rules rule takeRuled takeNumber endRuled endRefusal rowFault endGood fieldsFault hasContract hasAccount contractOf accountOf contractPlace accountPlace recordLength recordGood recordOf answered tablesOf tablesIn headerOf contractAt accountAt first le orElse pick
+unfolding justOpened openSteps workedTables tablesFor tradeOn endRow numbersOn rules rule takeRuled takeNumber
+    endRuled endRefusal rowFault endGood fieldsFault hasContract hasAccount contractOf accountOf contractPlace
+    accountPlace recordLength recordGood recordOf answered tablesOf tablesIn headerOf contractAt accountAt first le
+    orElse pick
 day-open p = refl
 
 -- the trades with a record of type 3 between
@@ -285,7 +301,9 @@ trades-refused : (book out : List ℕ) (len : ℕ)
     (takeRecord (tradeRow 11 12) ∷ takeRecord (tradeRow 11 12) ∷ takeRecord (endRow 2)
     ∷ takeRecord (tradeRow 11 12) ∷ takeRecord (tradeRow 11 12) ∷ takeRecord (tradeRow 12 12) ∷ [])
     (0 ∷ 0 ∷ 11 ∷ 0 ∷ 0 ∷ 0 ∷ []) (0 ∷ 0 ∷ 0 ∷ 0 ∷ 0 ∷ 0 ∷ []) (paper (during workedTables workedRecords) book out len)
-unfolding workedRecords workedTables tablesFor tradeOn endRow numbersOn rules paperAfter rule takeRuled takeNumber fieldsFault hasContract hasAccount contractOf accountOf contractPlace accountPlace recordLength recordGood recordOf answered tablesOf tablesIn headerOf contractAt accountAt first le orElse pick
+unfolding workedRecords workedTables tablesFor tradeOn endRow numbersOn rules paperAfter rule takeRuled takeNumber
+    fieldsFault hasContract hasAccount contractOf accountOf contractPlace accountPlace recordLength recordGood
+    recordOf answered tablesOf tablesIn headerOf contractAt accountAt first le orElse pick
 trades-refused book out len = record { numbers = refl; counts = refl; after = refl }
 
 lends : (p : Paper) (out : List ℕ)

@@ -117,7 +117,10 @@ module _ (g : ℕ) where
   first-day : logFault (yearTables 2 g) ≡ 0
       → DayGood (yearTables 2 g) firstTrades (0 ∷ 0 ∷ 0 ∷ 0 ∷ 12 ∷ 0 ∷ []) (0 ∷ 0 ∷ 0 ∷ 0 ∷ 0 ∷ 0 ∷ [])
       firstRecords 20240102
-  unfolding firstTrades firstRecords yearTables tablesFor tradeOn endRow numbersOn rules paperAfter rule takeRuled takeNumber fieldsFault hasContract hasAccount contractOf accountOf contractPlace accountPlace recordLength recordGood recordOf answered tablesOf tablesIn headerOf contractAt accountAt rowFault endGood first le orElse pick
+  unfolding firstTrades firstRecords yearTables tablesFor tradeOn endRow numbersOn rules paperAfter rule takeRuled
+      takeNumber fieldsFault hasContract hasAccount contractOf accountOf contractPlace accountPlace recordLength
+      recordGood recordOf answered tablesOf tablesIn headerOf contractAt accountAt rowFault endGood first le orElse
+      pick
   first-day e =
       record {
         good = e;
@@ -130,7 +133,10 @@ module _ (g : ℕ) where
 
   second-day : logFault (yearTables 3 g) ≡ 0
       → DayGood (yearTables 3 g) secondTrades (0 ∷ 0 ∷ 0 ∷ 0 ∷ 0 ∷ []) (0 ∷ 0 ∷ 0 ∷ 0 ∷ 0 ∷ []) secondRecords 20240103
-  unfolding secondTrades secondRecords yearTables tablesFor tradeOn endRow numbersOn rules paperAfter rule takeRuled takeNumber fieldsFault hasContract hasAccount contractOf accountOf contractPlace accountPlace recordLength recordGood recordOf answered tablesOf tablesIn headerOf contractAt accountAt rowFault endGood first le orElse pick
+  unfolding secondTrades secondRecords yearTables tablesFor tradeOn endRow numbersOn rules paperAfter rule takeRuled
+      takeNumber fieldsFault hasContract hasAccount contractOf accountOf contractPlace accountPlace recordLength
+      recordGood recordOf answered tablesOf tablesIn headerOf contractAt accountAt rowFault endGood first le orElse
+      pick
   second-day e =
       record {
         good = e;
@@ -147,7 +153,8 @@ module _ (g : ℕ) where
 -- no fault in their tables, in group 3 and in group 4
 tables-good : (logFault (yearTables 2 3) ≡ 0) × (logFault (yearTables 3 3) ≡ 0)
     × (logFault (yearTables 2 4) ≡ 0) × (logFault (yearTables 3 4) ≡ 0)
-unfolding yearTables tablesFor logFault headFault entriesFault headerOf contractsGood accountsGood contractAt accountAt idBefore numberBefore realDay monthDays every le pick
+unfolding yearTables tablesFor logFault headFault entriesFault headerOf contractsGood accountsGood contractAt
+    accountAt idBefore numberBefore realDay monthDays every le pick
 tables-good = (refl, refl, refl, refl)
 
 -- ---- the year
@@ -170,7 +177,8 @@ module _ (g : ℕ) (e : logFault (yearTables 2 g) ≡ 0) (f : logFault (yearTabl
       (day-leaves (second-day g f) (one .out) (one .kept) (omega (arith, first-day g e .dated)) (one .room))
 
   -- on the clerk's buffers
-  leaves : Leaves (paper idle (blank 1) (replicate fullRoom 0) clerkCounts) (yearWith (yearTables 2 g) (yearTables 3 g))
+  leaves : Leaves (paper idle (blank 1) (replicate fullRoom 0) clerkCounts)
+      (yearWith (yearTables 2 g) (yearTables 3 g))
       yearNumbers (yearDays g)
   leaves = year-leaves (replicate fullRoom 0) full-room
 
@@ -202,7 +210,10 @@ selfs-there group h = omega arith
 -- computed: of group 3 and of group 4, before and after
 offences : (offenceDays 2024 (selfs 3) (yearDays 3) ≡ 1) × (offenceDays 2024 (selfs 4) (yearDays 3) ≡ 0)
     × (offenceDays 2024 (selfs 3) (yearDays 4) ≡ 0) × (offenceDays 2024 (selfs 4) (yearDays 4) ≡ 2)
-unfolding yearTables tablesFor tradeOn firstRecords secondRecords offenceDays offenceOn offence reachesOn timesOf howMany familyOf countsFor countsAs planOf planFor groupOf hasAccount contractOf accountOf contractPlace accountPlace kindsOf kindsIn firstKind recordOf tablesOf tablesIn headerOf contractAt accountAt family enough exempt known byThree first some every le pick
+unfolding yearTables tablesFor tradeOn firstRecords secondRecords offenceDays offenceOn offence reachesOn timesOf
+    howMany familyOf countsFor countsAs planOf planFor groupOf hasAccount contractOf accountOf contractPlace
+    accountPlace kindsOf kindsIn firstKind recordOf tablesOf tablesIn headerOf contractAt accountAt family enough
+    exempt known byThree first some every le pick
 offences = (refl, refl, refl, refl)
 
 -- ---- the year joined

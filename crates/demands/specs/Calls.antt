@@ -28,7 +28,7 @@ pub data Step : Type 0 where
   endDay : (row : List ℕ) → Step
   abandonDay : Step
   askBook : (group kind family : ℕ) → Step
-  -- and, between calls, another findings buffer of any length and bytes: of the findings it is not asked that they stay
+  -- and, between calls, another findings buffer of any length and bytes: it is not asked that the findings stay
   lendFindings : (out : List ℕ) → Step
 
 -- an answer, of each call's kind

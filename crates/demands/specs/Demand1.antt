@@ -15,7 +15,8 @@ use Rattle.desk.specs.Open.{openFault}
 use Rattle.desk.specs.Take.{takeFault}
 use Rattle.desk.specs.End.{cellVerdict, endFault, endFound}
 use Rattle.desk.specs.Abandon.{abandonFault}
-use Rattle.demands.specs.Calls.{Step, makeBook, openDay, takeRecord, endDay, abandonDay, askBook, lendFindings, Reply, made, moved, ended, told, lent, numberIn, Desk, Given, Gives, Ran}
+use Rattle.demands.specs.Calls.{Step, makeBook, openDay, takeRecord, endDay, abandonDay, askBook, lendFindings}
+use Rattle.demands.specs.Calls.{Reply, made, moved, ended, told, lent, numberIn, Desk, Given, Gives, Ran}
 
 -- ---- "Each call ends with an answer whatever it is handed": for every list of steps, on every desk, there is one
 pub record Answered (w : Desk) (cs : List Step) : Type 0 where

@@ -27,7 +27,8 @@ use Rattle.desk.specs.Offences.{lowestOn}
 use Rattle.demands.specs.Counts.{timesOn, reachesAt, dayVerdict}
 use Rattle.demands.specs.Days.{PastDay, endedDay, carried, totalOver, bookOver, foundOn, blank}
 use Rattle.demands.specs.Listed.{Lists}
-use Rattle.demands.specs.Calls.{Step, makeBook, openDay, takeRecord, endDay, abandonDay, askBook, lendFindings, Reply, numberIn, Desk, Given, Gives, Ran, left, fullRoom}
+use Rattle.demands.specs.Calls.{Step, makeBook, openDay, takeRecord, endDay, abandonDay, askBook, lendFindings}
+use Rattle.demands.specs.Calls.{Reply, numberIn, Desk, Given, Gives, Ran, left, fullRoom}
 use Rattle.demands.specs.Logs.{recordsIn, logNumber, ruledFile, Judges, Judged, JudgesAll, ruledLogs}
 use Rattle.demands.specs.Paper.{Course, idle, during, Paper, Ruled, endRefusal, freshBook, rule, rules}
 use Rattle.demands.specs.Lent.{lastOpened, CountsHold}

@@ -18,7 +18,8 @@ use Rattle.daylog.specs.Header.{tablesOf}
 use Rattle.desk.specs.declared.state.State.the-variants.{Closed}
 use Rattle.desk.specs.Offences.{kindsOn}
 use Rattle.demands.specs.Days.{PastDay, timesIn, offenceIn, foundOn, blank}
-use Rattle.demands.specs.Calls.{Step, makeBook, openDay, takeRecord, endDay, abandonDay, askBook, lendFindings, numberIn, Desk, Given, numbers, Ran, left, fullRoom}
+use Rattle.demands.specs.Calls.{Step, makeBook, openDay, takeRecord, endDay, abandonDay, askBook, lendFindings}
+use Rattle.demands.specs.Calls.{numberIn, Desk, Given, numbers, Ran, left, fullRoom}
 use Rattle.demands.specs.Paper.{Course, idle, during}
 use Rattle.demands.specs.Logs.{clerkCounts, Judged, JudgesAll}
 use Rattle.demands.specs.Lent.{cellIn, lastOpened}
@@ -55,7 +56,8 @@ pub record DayJoined (a b : ℕ) (from : List ℕ) (d d′ : PastDay) (before be
   pub records : d′ .records ≡ d .records
   pub tables : Joined a b (d .tables) (d′ .tables)
   pub added : Added (kindsOn (d .tables)) a b (timesIn d) (timesIn d′) (between (d .tables) (d .records) a b)
-  -- "Every day that was an offence of a or of b, of a kind in a family, is one of the joined group on the same ladder."
+  -- "Every day that was an offence of a or of b, of a kind in a family,
+  -- is one of the joined group on the same ladder."
   pub stays : (kind family : ℕ) → (offenceIn d a kind family ≡ true) ⊎ (offenceIn d b kind family ≡ true)
       → offenceIn d′ b kind family ≡ true
   -- other groups' findings are as they were, byte for byte, and group a has none any more

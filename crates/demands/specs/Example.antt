@@ -37,12 +37,12 @@ unfoldable pub ownTrade : Record
 ownTrade = plainTrade 11 11
 
 -- five of them, and so an offence
-unfoldable pub dayOf : (date group : ℕ) → PastDay
-dayOf date group = record { date = date; tables = tablesWith group; records = replicate 5 ownTrade }
+unfoldable pub tradingDay : (date group : ℕ) → PastDay
+tradingDay date group = record { date = date; tables = tablesWith group; records = replicate 5 ownTrade }
 
 -- three days of January 2024, the latest first, with account 11 in a group: in 1, and after the join in 2
 unfoldable pub daysWith : (group : ℕ) → List PastDay
-daysWith group = dayOf 20240104 group ∷ dayOf 20240103 group ∷ dayOf 20240102 group ∷ []
+daysWith group = tradingDay 20240104 group ∷ tradingDay 20240103 group ∷ tradingDay 20240102 group ∷ []
 
 -- ---- the two ways to count, in 2024, on the ladder of a group for self-trades in futures
 -- findings with sanction 3

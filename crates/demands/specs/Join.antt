@@ -25,7 +25,7 @@ accountsFrom h = 16 + 8 * h .contracts
 abbrev pub accountsTo : Header → ℕ
 accountsTo h = accountsFrom h + 8 * h .accounts
 
--- the byte at a place of a log, or of a file that begins with its tables, is the group of an account entry: byte 4 of 8
+-- the byte at a place of a log, or of a file that begins with its tables, is the group of an account entry, byte 4
 abbrev pub groupByte : Header → ℕ → Bool
 groupByte h i = leb (accountsFrom h) i && ltb i (accountsTo h) && eqb ((i - accountsFrom h) % 8) 4
 

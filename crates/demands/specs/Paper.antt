@@ -26,7 +26,8 @@ use Rattle.desk.specs.Open.{handedFault}
 use Rattle.desk.specs.End.{rowFault}
 use Rattle.demands.specs.Counts.{dayVerdict}
 use Rattle.demands.specs.Days.{blank}
-use Rattle.demands.specs.Calls.{Step, makeBook, openDay, takeRecord, endDay, abandonDay, askBook, lendFindings, Reply, made, moved, ended, told, lent, numberIn}
+use Rattle.demands.specs.Calls.{Step, makeBook, openDay, takeRecord, endDay, abandonDay, askBook, lendFindings}
+use Rattle.demands.specs.Calls.{Reply, made, moved, ended, told, lent, numberIn}
 
 -- no day is open, or one is, with its tables as bytes and the records that it took, the latest first
 pub data Course : Type 0 where

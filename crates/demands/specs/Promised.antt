@@ -1,7 +1,9 @@
--- Every statement of demands 1 to 3, the starred table and the examples, as one record: a function of src/lib.rt has it
--- for its contract, so that a theorem that goes fails the gate.
+-- Every statement of demands 1 to 3, the starred table and the examples, as one record: a function of src/lib.rt has
+-- it for its contract, so that a theorem that goes fails the gate.
 use Rattle.demands.specs.Demand1.{AlwaysAnswered, OneAnswer, NumberNamed, ValuesNamed, RefusalKeeps}
-use Rattle.demands.specs.Demand2.{CallsRuled, CellsCounted, NeverChanged, NeverUnsound, FindingsListed, LowestId, BookOfDays, TotalsCounted, FreshIsBlank, BlankCarriesNothing, SanctionsFound, FindingsFound, LogsRuled, AlwaysRead, FileOfDays, LogsFound}
+use Rattle.demands.specs.Demand2.{CallsRuled, CellsCounted, NeverChanged, NeverUnsound, FindingsListed}
+use Rattle.demands.specs.Demand2.{LowestId, BookOfDays, TotalsCounted, FreshIsBlank, BlankCarriesNothing}
+use Rattle.demands.specs.Demand2.{SanctionsFound, FindingsFound, LogsRuled, AlwaysRead, FileOfDays, LogsFound}
 use Rattle.demands.specs.Demand3.{NothingLost, NothingLostInLogs}
 use Rattle.demands.specs.Example.{WhyThreeOrFive}
 use Rattle.demands.specs.Starred.{Starred}

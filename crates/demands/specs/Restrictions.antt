@@ -1,5 +1,5 @@
--- 01, "Ladders": sanctions over days, and the opening restrictions among them: "3 (no opening, at least one month)" and
--- "5 (no opening, at least three months)".
+-- 01, "Ladders": sanctions over days, and the opening restrictions among them: "3 (no opening, at least one month)"
+-- and "5 (no opening, at least three months)".
 use mathlib.Core.Path.{_≡_}
 use Prim.Native.Nat.{ℕ, _+_, _<_}
 use mathlib.Core.Bool.{Bool, _&&_, _||_}

@@ -13,7 +13,7 @@ use Rattle.daylog.specs.declared.record.Record.{Record}
 abbrev pub futures : (id largest : ℕ) → Contract
 futures id largest = record { id = id; sort = 1; product = 0; largest = lots largest }
 
--- one account buys one lot of contract 101 and another, or the same, sells it; both orders are plain limit and ordinary
+-- one account buys one lot of contract 101 and another, or the same, sells it; both orders plain and ordinary
 abbrev pub plainTrade : (buyer seller : ℕ) → Record
 plainTrade buyer seller = record {
   sort = 1;

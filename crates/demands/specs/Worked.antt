@@ -11,7 +11,9 @@ use Rattle.rules.specs.Kinds.{kindsOf}
 use Rattle.places.specs.Places.{ladderOf}
 use Rattle.desk.specs.End.{endFound}
 use Rattle.demands.specs.Samples.{bookWithOne}
-use Rattle.demands.specs.Calls.{Step, makeBook, openDay, takeRecord, endDay, abandonDay, askBook, lendFindings, Reply, made, moved, ended, told, lent, Desk, Given, numbers, Ran, left, fullRoom}
+use Rattle.demands.specs.Calls.{Step, makeBook, openDay, takeRecord, endDay, abandonDay, askBook, lendFindings}
+use Rattle.demands.specs.Calls.{Reply, made, moved, ended, told, lent, Desk, Given, numbers, Ran, left}
+use Rattle.demands.specs.Calls.{fullRoom}
 use Rattle.demands.specs.Logs.{clerkCounts, clerkDesk}
 use Rattle.demands.specs.Paper.{idle, during, Paper, numbersOn, paperAfter}
 
@@ -80,8 +82,8 @@ wholeDay tables trades = openDay tables ∷ (trades ++ (endDay (endRow 5) ∷ []
 unfoldable pub workedSteps : List Step
 workedSteps = wholeDay workedTables workedTrades
 
--- "3 1 0 2 2 101", the line's group, kind, family, total, sanction and contract. In the buffer: group, kind, family and
--- sanction, one byte each, then the total and the contract in 16 bits
+-- "3 1 0 2 2 101", the line's group, kind, family, total, sanction and contract. In the buffer: group, kind, family
+-- and sanction, one byte each, then the total and the contract in 16 bits
 unfoldable pub workedFinding : List ℕ
 workedFinding = 3 ∷ 1 ∷ 0 ∷ 2 ∷ 2 ∷ 0 ∷ 101 ∷ 0 ∷ []
 

@@ -1,4 +1,5 @@
--- The book that ending a day writes is sound, and each total is the one carried and one more with an offence. Assumes nothing.
+-- The book that ending a day writes is sound, and each total is the one carried and one more with an offence. Assumes
+-- nothing.
 use mathlib.Core.Path.{_≡_, refl, sym, ap, _∙_}
 use mathlib.Core.Bool.{Bool, true, false}
 use mathlib.Core.List.{List}
@@ -37,24 +38,32 @@ other-family false true c f low high = ne-eqb 1 f (λ e. omega arith)
 other-family false false true f low high = ne-eqb 16 f (λ e. omega arith)
 other-family false false false f low high = ne-eqb 16 f (λ e. omega arith)
 
-family-one : (text : Text) (s p f : ℕ) → eqb (text .rulebook) 1 ≡ true → 2 ≤ f → f ≤ 15 → eqb (family text s p) f ≡ false
+family-one : (text : Text) (s p f : ℕ) → eqb (text .rulebook) 1 ≡ true → 2 ≤ f → f ≤ 15 → eqb (family text s p) f
+    ≡ false
 unfolding family byThree
 family-one text s p f e low high =
     ap (λ (n : ℕ). eqb n f) (sym (pick-yes _ _ _ _ e refl)) ∙ other-family (eqb s 1) (eqb s 2) (eqb s 3) f low high
 
-lowest-none : (t : Tables) (counted : ℕ → ℕ → ℕ) (l : ℕ) → shut (t .text .rulebook) l ≡ true → lowestOn t counted l ≡ t .contracts
+lowest-none : (t : Tables) (counted : ℕ → ℕ → ℕ) (l : ℕ) → shut (t .text .rulebook) l ≡ true → lowestOn t counted l
+    ≡ t .contracts
 unfolding lowestOn lowest reachedAt familyOf
 lowest-none t counted l e =
-    let low : 2 ≤ familyAt l = leb-true 2 (familyAt l) (and-right (eqb (t .text .rulebook) 1) (leb 2 (familyAt l)) e) in
+    let low : 2 ≤ familyAt l =
+    leb-true 2 (familyAt l) (and-right (eqb (t .text .rulebook) 1) (leb 2 (familyAt l)) e) in
     let one = and-left (eqb (t .text .rulebook) 1) (leb 2 (familyAt l)) e in
-    first-none _ _ (λ k h. and-no _ _ (family-one (t .text) (t .contract k .sort) (t .contract k .product) (familyAt l) one low (omega arith)))
+    first-none _ _
+    (λ k h. and-no _ _ (family-one (t .text) (t .contract k .sort) (t .contract k .product) (familyAt l) one low
+    (omega arith)))
 
-none-offends : (t : Tables) (counted : ℕ → ℕ → ℕ) (l : ℕ) → shut (t .text .rulebook) l ≡ true → offends (verdictOn t counted) l ≡ false
+none-offends : (t : Tables) (counted : ℕ → ℕ → ℕ) (l : ℕ) → shut (t .text .rulebook) l ≡ true
+    → offends (verdictOn t counted) l ≡ false
 unfolding offends verdictOn
-none-offends t counted l e = let q = lowest-none t counted l e in le-ltb (lowestOn t counted l) (t .contracts) (omega arith)
+none-offends t counted l e = let q = lowest-none t counted l e in le-ltb (lowestOn t counted l) (t .contracts)
+    (omega arith)
 
 -- ---- a day of a date later than a sound book's, with the book's rulebook
-module _ (t : Tables) (date : ℕ) (book : List ℕ) (counted : ℕ → ℕ → ℕ) (s : SoundBook (dayShape (t .text .rulebook)) book)
+module _ (t : Tables) (date : ℕ) (book : List ℕ) (counted : ℕ → ℕ → ℕ)
+    (s : SoundBook (dayShape (t .text .rulebook)) book)
     (same : rulebookOf book ≡ t .text .rulebook) (day : realDay date ≡ true) (later : lastDate book < date) where
   abbrev summed : ℕ → ℕ
   summed l = pick (laterYear book date) 0 (totalAt book l) + pick (offends (verdictOn t counted) l) 1 0
@@ -70,5 +79,6 @@ module _ (t : Tables) (date : ℕ) (book : List ℕ) (counted : ℕ → ℕ → 
   pub kept-sound : sound (bookAfter (verdictOn t counted) date book) ≡ true
   unfolding verdictOn bookAfter
   kept-sound =
-      rw (rulebook-of-book (dayShape (t .text .rulebook)) (t .text .rulebook) date (totalAfter (verdictOn t counted) date book))
+      rw (rulebook-of-book (dayShape (t .text .rulebook)) (t .text .rulebook) date
+      (totalAfter (verdictOn t counted) date book))
       (sound-by (verdictOn t counted) date book s same day later (none-offends t counted))

@@ -36,12 +36,14 @@ use Rattle.desk.specs.Open.{kindsFor}
 use Rattle.desk.specs.Take.{sizesFault}
 use Rattle.desk.specs.Offences.{kindsOn, verdictOn}
 use Rattle.desk.specs.Way.{dayPlaces}
-use Rattle.desk.specs.End.{callFault, rowFault, lentFault, cellsFault, cellVerdict, countsFault, dayFound, DayEnds}
+use Rattle.desk.specs.End.{callFault, rowFault, lentFault, cellsFault, cellVerdict, countsFault, dayFound}
+use Rattle.desk.specs.End.{DayEnds}
 use Rattle.desk.proofs.HandedLaws.{room-sized, sound-tables}
 use Rattle.desk.proofs.VerdictLaws.{dayBytes, day-same, kinds-are, count-same}
 
 -- no more ladders have an offence than there are
-pub found-low : (kinds : Kinds) (places : List ℕ) (contracts n : ℕ) → n ≡ foundIn kinds places contracts → 8 * n < 2 ^ 64
+pub found-low : (kinds : Kinds) (places : List ℕ) (contracts n : ℕ) → n ≡ foundIn kinds places contracts
+    → 8 * n < 2 ^ 64
 unfolding foundIn
 found-low kinds places contracts n e = omega (arith, count-le (hitAt places contracts) (ladders kinds), few kinds)
 
@@ -62,12 +64,14 @@ pub record Handed (day : Day) (log book : List ℕ) (len : ℕ) : Type 0 where
   pub counts-long : cells (kindsFor (day .head)) ≤ len
 
 -- a book that fits has the shape of the day's rulebook
-fits-day : (rulebook date : ℕ) (book : List ℕ) → bookFault rulebook date book ≡ 0 → Fits (dayShape rulebook) rulebook date book
+fits-day : (rulebook date : ℕ) (book : List ℕ) → bookFault rulebook date book ≡ 0
+    → Fits (dayShape rulebook) rulebook date book
 fits-day rulebook date book e =
     let f : Fits (shapeOf book) rulebook date book = fits (shapeOf book) rulebook date book e in
     rw (f .same) at f
 
-pub handed : (day : Day) (log row book : List ℕ) (len : ℕ) → lentFault day log row book len ≡ 0 → Handed day log book len
+pub handed : (day : Day) (log row book : List ℕ) (len : ℕ) → lentFault day log row book len ≡ 0
+    → Handed day log book len
 unfolding lentFault callFault
 handed day log row book len e =
     let e1 = or-none (callFault day log row len) _ e in
@@ -81,7 +85,8 @@ handed day log row book len e =
     }
 
 -- the day's book has its length
-pub book-long : (day : Day) (log book : List ℕ) (len : ℕ) → Handed day log book len → length book ≡ bookSize (kindsFor (day .head))
+pub book-long : (day : Day) (log book : List ℕ) (len : ℕ) → Handed day log book len → length book
+    ≡ bookSize (kindsFor (day .head))
 unfolding dayShape
 book-long day log book len h = h .fit .facts .long
 
@@ -93,21 +98,29 @@ endedBy (Refused n) = NotEnded n
 module _ (day : Day) (log c : List ℕ) (e : day .head ≡ headerOf log) (good : GoodLog (day .head) log)
     (small : (j : ℕ) → getD log j 0 < 256) (none : cellsFault (kindsFor (day .head)) (day .taken) c ≡ 0) where
   -- the cells have no fault: the findings' room decides
-  pub room-decides : (room : ℕ) → shortFault (cellVerdict (tablesOf log) c) room ≡ countsFault day (tablesOf log) c room
+  pub room-decides : (room : ℕ) → shortFault (cellVerdict (tablesOf log) c) room ≡ countsFault day
+      (tablesOf log) c room
   unfolding countsFault
   room-decides room =
-      sym (or-else (cellsFault (kindsOn (tablesOf log)) (day .taken) c) _ (rw (← kinds-are (day .head) log c e good) none))
+      sym (or-else (cellsFault (kindsOn (tablesOf log)) (day .taken) c) _
+      (rw (← kinds-are (day .head) log c e good) none))
 
   pub ended-by : (book out : List ℕ) → length book ≡ bookSize (kindsFor (day .head)) → {a : Settled} {b o : List ℕ} →
       SettleGives (dayBytes (day .head) log c e good) (day .head .date) book out a b o
-      → DayEnds (countsFault day (tablesOf log) c (length out)) (day .head .date) (tablesOf log) book c out (endedBy a) b o
+      → DayEnds (countsFault day (tablesOf log) c (length out)) (day .head .date) (tablesOf log) book c out
+      (endedBy a) b o
   unfolding verdictOn dayShape
   ended-by book out long g =
-      rw (← room-decides (length out), ← long-fault (cellVerdict (tablesOf log) c) book out (rw (← kinds-are (day .head) log c e good) long))
+      rw (
+        ← room-decides (length out),
+        ← long-fault (cellVerdict (tablesOf log) c) book out
+            (rw (← kinds-are (day .head) log c e good) long),
+      )
       (outcome-map endedBy (settle-same _ _ (day-same (day .head) log c e good small) (day .head .date) book out g))
 
   -- what would be found, where n ladders were counted to have an offence
-  module _ (room n : ℕ) (counted : n ≡ foundIn (kindsFor (day .head)) (dayPlaces (day .head) log c) (day .head .contracts)) where
+  module _ (room n : ℕ) (counted : n ≡ foundIn (kindsFor (day .head)) (dayPlaces (day .head) log c)
+      (day .head .contracts)) where
     n-is : n ≡ foundCount (cellVerdict (tablesOf log) c)
     n-is = counted ∙ count-same (day .head) log c e good small
 
@@ -115,12 +128,15 @@ module _ (day : Day) (log c : List ℕ) (e : day .head ≡ headerOf log) (good :
     unfolding dayFound shortFault
     found-short h =
         answer-refused _ NotFound _ 20
-        (pick-yes _ _ _ _ (lt-ltb room (8 * foundCount (cellVerdict (tablesOf log) c)) (omega (arith, n-is))) refl ∙ room-decides room)
+        (pick-yes _ _ _ _ (lt-ltb room (8 * foundCount (cellVerdict (tablesOf log) c)) (omega (arith, n-is))) refl
+        ∙ room-decides room)
         (λ z. absurd (omega arith))
 
     pub found-done : 8 * n ≤ room → Finds n ≡ dayFound (countsFault day (tablesOf log) c room) (tablesOf log) c
     unfolding dayFound shortFault
     found-done h =
         answer-done _ NotFound _
-        (sym (room-decides room) ∙ sym (pick-no _ _ _ _ (le-ltb room (8 * foundCount (cellVerdict (tablesOf log) c)) (omega (arith, n-is))) refl))
+        (sym (room-decides room)
+        ∙ sym (pick-no _ _ _ _ (le-ltb room (8 * foundCount (cellVerdict (tablesOf log) c)) (omega (arith, n-is)))
+        refl))
         (ap Finds n-is)

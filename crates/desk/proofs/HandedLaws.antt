@@ -27,7 +27,8 @@ unfolding sizesFault
 room-sized day row len e = ltb-false _ _ (pick-zero _ 16 _ (lit< tt) (pick-zero _ 1 _ (lit< tt) e .1) .0)
 
 -- tables that bring no refusal are still those of the day, and good
-pub sound-tables : (head : Header) (log : List ℕ) → changedFault head log ≡ 0 → (head ≡ headerOf log) × GoodLog head log
+pub sound-tables : (head : Header) (log : List ℕ) → changedFault head log ≡ 0 → (head ≡ headerOf log)
+    × GoodLog head log
 sound-tables head log e = still-good head log (pick-zero _ 19 _ (lit< tt) e .0)
 
 -- so a record that is weighed is of the day's log

@@ -38,7 +38,8 @@ module _ (text : Text) (kinds : Kinds) (fams c : List ℕ) (ladder : ℕ) where
         → k ≡ placeAt text kinds fams c ladder
     unfolding placeAt lowest
     place-here k h none here =
-        sym (first-at reachedIn k (length fams) h (λ j m. rw (← tested number e j) (none j m)) (rw (← tested number e k) here))
+        sym (first-at reachedIn k (length fams) h (λ j m. rw (← tested number e j) (none j m))
+        (rw (← tested number e k) here))
 
     pub place-nowhere : ((j : ℕ) → j < length fams → passes j ≡ false) → length fams ≡ placeAt text kinds fams c ladder
     unfolding placeAt lowest

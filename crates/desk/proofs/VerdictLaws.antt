@@ -97,7 +97,8 @@ module _ (text : Text) (contracts accounts c : List ℕ) where
       ap (first (reachedAt (λ k. getD fams k 0) (length fams) text kinds (inCells kinds c l) l)) families-length
       ∙ first-cong (reachedAt (λ k. getD fams k 0) (length fams) text kinds (inCells kinds c l) l)
       (reachedAt (familyOf day) (entries contracts) text kinds (inCells kinds c l) l) (entries contracts)
-      (λ k h. ap (λ f. eqb f (familyAt l) && reached (times (inCells kinds c l k)) (enough text (kindAt kinds l))) (family-is k h))
+      (λ k h. ap (λ f. eqb f (familyAt l) && reached (times (inCells kinds c l k)) (enough text (kindAt kinds l)))
+      (family-is k h))
 
   filled : (l : ℕ) → l < ladders kinds → placeIn places l ≡ lowestOn day (inCells kinds c) l
   unfolding placesIn placeIn
@@ -108,13 +109,19 @@ module _ (text : Text) (contracts accounts c : List ℕ) where
   pub ids-length : length (idsIn contracts) / 2 ≡ entries contracts
   unfolding idsIn
   ids-length =
-      omega (arith, rows-length (λ k. bytes 2 (contractIn contracts k .id)) 2 (λ k. bytes-length 2 _) (entries contracts))
+      omega (
+        arith,
+        rows-length (λ k. bytes 2 (contractIn contracts k .id)) 2 (λ k. bytes-length 2 _)
+            (entries contracts),
+      )
 
-  id-is : ((j : ℕ) → getD contracts j 0 < 256) → (k : ℕ) → k < entries contracts → le 2 (idsIn contracts) (2 * k) ≡ day .contract k .id
+  id-is : ((j : ℕ) → getD contracts j 0 < 256) → (k : ℕ) → k < entries contracts → le 2 (idsIn contracts) (2 * k)
+      ≡ day .contract k .id
   unfolding idsIn tablesIn contractAt
   id-is small k h =
       let e : contractIn contracts k .id ≡ le 2 contracts (8 * k) = ap (λ x. x .id) (entry-in contracts k h) in
-      pair-at (λ j. contractIn contracts j .id) (entries contracts) k h (omega (arith, pair-low contracts (8 * k) small)) ∙ e
+      pair-at (λ j. contractIn contracts j .id) (entries contracts) k h
+      (omega (arith, pair-low contracts (8 * k) small)) ∙ e
 
   one-if : (b : Bool) → eqb (pick b 1 0) 1 ≡ b
   unfolding pick
@@ -125,11 +132,14 @@ module _ (text : Text) (contracts accounts c : List ℕ) where
   unfolding membersIn memberOn tablesIn
   member-is g low high =
       let e : g - 1 + 1 ≡ g = omega arith in
-      ap (λ n. eqb n 1) (ones-at (λ k. pick (hasMember (accountAt accounts) (entries accounts) (k + 1)) 1 0) 128 (g - 1) (omega arith))
-      ∙ one-if (hasMember (accountAt accounts) (entries accounts) (g - 1 + 1)) ∙ ap (hasMember (accountAt accounts) (entries accounts)) e
+      ap (λ n. eqb n 1) (ones-at (λ k. pick (hasMember (accountAt accounts) (entries accounts) (k + 1)) 1 0) 128
+      (g - 1) (omega arith))
+      ∙ one-if (hasMember (accountAt accounts) (entries accounts) (g - 1 + 1))
+      ∙ ap (hasMember (accountAt accounts) (entries accounts)) e
 
   verdict-same : ((j : ℕ) → getD contracts j 0 < 256)
-      → Same (verdictIn (dayShape (text .rulebook)) (text .rulebook) places (idsIn contracts) (membersIn accounts)) (verdictOn day (inCells kinds c))
+      → Same (verdictIn (dayShape (text .rulebook)) (text .rulebook) places (idsIn contracts) (membersIn accounts))
+      (verdictOn day (inCells kinds c))
   unfolding verdictIn verdictOn tablesIn dayShape
   verdict-same small = record {
     shape = refl;
@@ -155,7 +165,8 @@ module _ (h : Header) (log c : List ℕ) (e : h ≡ headerOf log) (good : GoodLo
 
   abbrev pub dayBytes : Verdict
   dayBytes =
-      verdictIn (dayShape (h .rulebook)) (h .rulebook) (dayPlaces h log c) (idsIn (contractsPart h log)) (membersIn (accountsPart h log))
+      verdictIn (dayShape (h .rulebook)) (h .rulebook) (dayPlaces h log c) (idsIn (contractsPart h log))
+      (membersIn (accountsPart h log))
 
   pub day-same : ((j : ℕ) → getD log j 0 < 256) → Same dayBytes (cellVerdict (tablesOf log) c)
   unfolding tablesIn
@@ -169,6 +180,8 @@ module _ (h : Header) (log c : List ℕ) (e : h ≡ headerOf log) (good : GoodLo
       → foundIn (kindsFor h) (dayPlaces h log c) (h .contracts) ≡ foundCount (cellVerdict (tablesOf log) c)
   unfolding dayShape
   count-same small =
-      ap (foundIn (kindsFor h) (dayPlaces h log c)) (sym (ids-length (textOf h) (contractsPart h log) (accountsPart h log) c ∙ size-is))
-      ∙ found-in (dayShape (h .rulebook)) (h .rulebook) (dayPlaces h log c) (idsIn (contractsPart h log)) (membersIn (accountsPart h log))
+      ap (foundIn (kindsFor h) (dayPlaces h log c))
+      (sym (ids-length (textOf h) (contractsPart h log) (accountsPart h log) c ∙ size-is))
+      ∙ found-in (dayShape (h .rulebook)) (h .rulebook) (dayPlaces h log c) (idsIn (contractsPart h log))
+      (membersIn (accountsPart h log))
       ∙ same-count _ _ (day-same small)

@@ -1,4 +1,4 @@
--- The way, not the meaning: a day's verdict as bytes, which proofs/VerdictLaws shows to be specs/Offences' `verdictOn`.
+-- The way, not the meaning: a day's verdict as bytes. proofs/VerdictLaws shows that it is `verdictOn`, specs/Offences.
 use Prim.Native.Nat.{ℕ, _+_}
 use mathlib.Core.List.{List, [], _∷_}
 use lib.ListN.{length, getD}

@@ -71,4 +71,5 @@ module _ (part : List ℕ) (later : Bool) (places : List ℕ) (from contracts : 
       let same : old ≡ le 2 part (2 * j) =
       o ∙ ap (λ (s : List ℕ). le 2 s (2 * j)) e ∙ le-put-after part 0 _ (omega arith) 2 (2 * j) (omega arith) in
       let is : new ≡ totalAfter j = n ∙ ap₂ (λ (x y : ℕ). nextTotal later (ltb x contracts) y) p same in
-      pair-turn totalAfter part r r′ 0 (2 * j) j e (omega arith) (e′ ∙ ap (λ (v : ℕ). putIn r (2 * j) (bytes 2 v)) is) h
+      pair-turn totalAfter part r r′ 0 (2 * j) j e (omega arith) (e′ ∙ ap (λ (v : ℕ). putIn r (2 * j) (bytes 2 v)) is)
+      h

@@ -33,8 +33,8 @@ pub fn place_in(places: &[u8], ladder: usize) -> usize
     }
 }
 
-// Raises the totals in a group's part of the book. `places` has, for each ladder, the place of the lowest contract that
-// reached the number; those of the group begin at `from`. A place from `contracts` on is none.
+// Raises the totals in a group's part of the book. `places` has, for each ladder, the place of the lowest contract
+// that reached the number; those of the group begin at `from`. A place from `contracts` on is none.
 pub fn raise_group(part: &mut [u8], later: bool, places: &[u8], from: u16, contracts: usize)
     ensures { λ _. ⌜ now (part .exit) ≡ raisedPart (now (part .entry)) later (now (places .entry)) from contracts ⌝ }
 {

@@ -32,11 +32,13 @@ module _ (s : List ℕ) (small : (i : ℕ) → getD s i 0 < 256) (k : ℕ) where
       let w = le-four s (8 * k + 4) (8 * k + 5) (8 * k + 6) (8 * k + 7) (omega arith) (omega arith) (omega arith) in
       let z = le-two s (8 * k + 6) (8 * k + 7) (omega arith) in
       let group : le 4 s (8 * k + 4) % 256 ≡ getD s (8 * k + 4) 0 = omega (arith, small (8 * k + 4)) in
-      let q : le 4 s (8 * k + 4) / 256 ≡ getD s (8 * k + 5) 0 + 256 * (getD s (8 * k + 6) 0 + 256 * getD s (8 * k + 7) 0) =
+      let q : le 4 s (8 * k + 4) / 256 ≡ getD s (8 * k + 5) 0 + 256 *
+      (getD s (8 * k + 6) 0 + 256 * getD s (8 * k + 7) 0) =
       omega (arith, small (8 * k + 4)) in
       let kind : le 4 s (8 * k + 4) / 256 % 256 ≡ getD s (8 * k + 5) 0 =
       ap (λ (n : ℕ). n % 256) q ∙ low (getD s (8 * k + 5) 0) _ (small (8 * k + 5)) in
-      let spare : le 4 s (8 * k + 4) / 65536 ≡ le 2 s (8 * k + 6) = omega (arith, small (8 * k + 4), small (8 * k + 5)) in
+      let spare : le 4 s (8 * k + 4) / 65536 ≡ le 2 s (8 * k + 6) =
+      omega (arith, small (8 * k + 4), small (8 * k + 5)) in
       rw (group, kind, spare)
 
   pub contract-words : contractFrom (le 4 s (8 * k)) (le 4 s (8 * k + 4)) ≡ contractAt s k
@@ -72,7 +74,8 @@ module _ (s : List ℕ) (id : ℕ) where
   unfolding foundContract contractPlace
   found-at k e h none is this =
       let p : place ≡ k =
-      first-at (λ j. eqb (contractAt s j .id) id) k (entries s) h none (eq-eqb _ _ (ap (λ x. x .id) (sym is) ∙ this)) in
+      first-at (λ j. eqb (contractAt s j .id) id) k (entries s) h none
+      (eq-eqb _ _ (ap (λ x. x .id) (sym is) ∙ this)) in
       pick-yes _ _ _ _ (lt-ltb place (entries s) (rw p h)) (ap₂ At (sym p) (is ∙ ap (contractAt s) (sym p)))
 
   pub found-nothing : ((j : ℕ) → j < entries s → eqb (contractAt s j .id) id ≡ false) → Nothing ≡ foundContract s id
@@ -84,7 +87,8 @@ module _ (s : List ℕ) (id : ℕ) where
 -- the answer's values: it finds a contract exactly where the table has it, and then at its place
 pub values-found : (s : List ℕ) (id : ℕ) →
     let place = contractPlace (contractAt s) (entries s) id in
-    (isFound (foundContract s id) ≡ ltb place (entries s)) × (placeFound (foundContract s id) ≡ pick (ltb place (entries s)) place 0)
+    (isFound (foundContract s id) ≡ ltb place (entries s))
+    × (placeFound (foundContract s id) ≡ pick (ltb place (entries s)) place 0)
 unfolding foundContract pick
 values-found s id = go (ltb (contractPlace (contractAt s) (entries s) id) (entries s))
   where

@@ -73,9 +73,11 @@ module _ (s : List ℕ) (x : ℕ) where
   halve-turns (suc m) (suc n) from size p q =
       by-order size 1 (λ l. halve-end (suc m) from size l ∙ sym (halve-end (suc n) from size l))
       (λ l.
-      step m from size l ∙ halve-turns m n (next from size) (size - size / 2) (omega arith) (omega arith) ∙ sym (step n from size l))
+      step m from size l ∙ halve-turns m n (next from size) (size - size / 2) (omega arith) (omega arith)
+      ∙ sym (step n from size l))
 
-  pub halve-turn : (n from size : ℕ) → 1 < size → size ≤ n → halve n s x from size ≡ halve n s x (next from size) (size - size / 2)
+  pub halve-turn : (n from size : ℕ) → 1 < size → size ≤ n → halve n s x from size ≡ halve n s x (next from size)
+      (size - size / 2)
   halve-turn zero from size l h = absurd (omega arith)
   halve-turn (suc n) from size l h = step n from size l ∙ halve-turns n (suc n) _ _ (omega arith) (omega arith)
 
@@ -83,7 +85,8 @@ module _ (s : List ℕ) (x : ℕ) where
   halve-below zero from size l = rw none (omega arith)
   halve-below (suc n) from size l =
       by-order size 1 (λ h. rw (halve-end (suc n) from size h) (omega arith))
-      (λ h. rw (step n from size h) (omega (arith, halve-below n (next from size) (size - size / 2) (omega arith), next-le from size)))
+      (λ h. rw (step n from size h)
+      (omega (arith, halve-below n (next from size) (size - size / 2) (omega arith), next-le from size)))
 
   pub halved-below : 0 < entries s → halved s x < entries s
   unfolding halved
@@ -94,14 +97,18 @@ module _ (s : List ℕ) (x : ℕ) where
   halved-fits h e l = omega (arith, halved-below (omega arith))
 
   -- ---- what is found
-  pub found-here : (h : ℕ) → h ≡ halved s x → 8 ≤ length s → accountAt s h .number ≡ x → take 8 (drop (8 * h) s) ≡ foundAccount s x
+  pub found-here : (h : ℕ) → h ≡ halved s x → 8 ≤ length s → accountAt s h .number ≡ x → take 8 (drop (8 * h) s)
+      ≡ foundAccount s x
   unfolding foundAccount
   found-here h e l is =
-      rw (← e) (pick-yes _ _ _ _ (rw (lt-ltb h (entries s) (omega (arith, halved-below (omega arith)))) (eq-eqb _ _ is)) refl)
+      rw (← e) (pick-yes _ _ _ _ (rw (lt-ltb h (entries s) (omega (arith, halved-below (omega arith))))
+      (eq-eqb _ _ is)) refl)
 
   pub found-not : (halved s x < entries s → accountAt s (halved s x) .number ≡ x → ⊥) → [] ≡ foundAccount s x
   unfolding foundAccount
-  found-not no-hit = pick-no _ _ _ _ (not-both (ltb (halved s x) (entries s)) _ (λ p q. no-hit (ltb-true _ _ p) (eqb-true _ _ q))) refl
+  found-not no-hit =
+      pick-no _ _ _ _ (not-both (ltb (halved s x) (entries s)) _ (λ p q. no-hit (ltb-true _ _ p) (eqb-true _ _ q)))
+      refl
 
   placed : place s x < entries s → accountAt s (place s x) .number ≡ x
   unfolding accountPlace
@@ -124,7 +131,8 @@ module _ (s : List ℕ) (good : accountsGood s ≡ true) where
   unfolding numberBefore
   rising j zero h l = absurd (not-suc-le-zero h)
   rising j (suc k) h l =
-      ⊎-elim (λ (e : j ≡ k). rw e (above (suc k) l)) (λ (m : j < k). lt-trans (rising j k m (omega arith)) (above (suc k) l))
+      ⊎-elim (λ (e : j ≡ k). rw e (above (suc k) l)) (λ (m : j < k). lt-trans (rising j k m (omega arith))
+      (above (suc k) l))
       (eq-or-lt-of-le (le-of-suc-le-suc h))
 
   -- what halving and the first place give for the number at place k
@@ -143,7 +151,8 @@ module _ (s : List ℕ) (good : accountsGood s ≡ true) where
         by-order j k
         (λ h.
         absurd
-        (⊎-elim (λ (e : j ≡ k). omega (arith, ap (λ (i : ℕ). accountAt s i .number) e)) (λ (l : j < k). omega (arith, rising j k l here))
+        (⊎-elim (λ (e : j ≡ k). omega (arith, ap (λ (i : ℕ). accountAt s i .number) e))
+        (λ (l : j < k). omega (arith, rising j k l here))
         (eq-or-lt-of-le h)))
         (λ h. h)
 
@@ -155,14 +164,16 @@ module _ (s : List ℕ) (good : accountsGood s ≡ true) where
         (λ m. rw (← next-up s x from size m) (not-past (from + size / 2) (omega arith) m, omega arith))
         (λ m. rw (← next-stay s x from size m) (a, omega (arith, past (from + size / 2) m)))
 
-    finds : (n from size : ℕ) → size ≤ n → from ≤ k → k < from + size → from + size ≤ entries s → halve n s x from size ≡ k
+    finds : (n from size : ℕ) → size ≤ n → from ≤ k → k < from + size → from + size ≤ entries s
+        → halve n s x from size ≡ k
     finds zero from size h a b d = absurd (omega arith)
     finds (suc n) from size h a b d =
         by-order size 1 (λ l. rw (halve-end s x (suc n) from size l) (omega arith))
         (λ l.
         let q = keeps from size l a b d in
         let w = next-le s x from size in
-        rw (step s x n from size l) (finds n (next s x from size) (size - size / 2) (omega arith) (q .0) (q .1) (omega arith)))
+        rw (step s x n from size l) (finds n (next s x from size) (size - size / 2) (omega arith) (q .0) (q .1)
+        (omega arith)))
 
     pub halved-rising : halved s x ≡ k
     unfolding halved

@@ -1,5 +1,5 @@
--- What ties a run to the code: each of the six calls, as a function that customers link, gives what `Gives` says of it,
--- whatever stands in the parts of the desk that are not lent to it. The functions are in src/lib.rt.
+-- What ties a run to the code: each of the six calls, as a function that customers link, gives what `Gives` says of
+-- it, whatever stands in the parts of the desk that are not lent to it. The functions are in src/lib.rt.
 use mathlib.Core.List.{List}
 use Prim.Native.Nat.{ℕ}
 use Rattle.posting.specs.declared.fresh.NewBook.{NewBook}
@@ -7,7 +7,8 @@ use Rattle.book.specs.declared.ask.Asked.{Asked}
 use Rattle.desk.specs.declared.state.State.{State}
 use Rattle.desk.specs.declared.state.Answer.{Answer}
 use Rattle.desk.specs.declared.end.Ended.{Ended}
-use Rattle.demands.specs.Calls.{makeBook, openDay, takeRecord, endDay, abandonDay, askBook, made, moved, ended, told, deskOf, stateAfter, logAfter, endState, Gives}
+use Rattle.demands.specs.Calls.{makeBook, openDay, takeRecord, endDay, abandonDay, askBook, made, moved, ended, told}
+use Rattle.demands.specs.Calls.{deskOf, stateAfter, logAfter, endState, Gives}
 
 -- a fresh book: the answer, and the book
 abbrev pub FreshTied : List ℕ → ℕ → NewBook → List ℕ → Type 0

@@ -31,17 +31,22 @@ most-day : (r d l : ℕ) → shut r l ≡ false → mostOf r d l ≡ d
 unfolding mostOf
 most-day r d l e = sym (pick-no _ _ _ _ e refl)
 
--- ---- a day of a date later than a sound book's, with the book's rulebook, and no offence on a ladder that must stay 0
-module _ (v : Verdict) (date : ℕ) (book : List ℕ) (s : SoundBook (v .shape) book) (same : rulebookOf book ≡ v .rulebook)
-    (day : realDay date ≡ true) (later : lastDate book < date) (none : (l : ℕ) → shut (v .rulebook) l ≡ true → offends v l ≡ false) where
+-- ---- a day of a date later than a sound book's, with the book's rulebook, and no offence on a ladder that must stay
+-- 0
+module _ (v : Verdict) (date : ℕ) (book : List ℕ) (s : SoundBook (v .shape) book)
+    (same : rulebookOf book ≡ v .rulebook)
+    (day : realDay date ≡ true) (later : lastDate book < date) (none : (l : ℕ) → shut (v .rulebook) l ≡ true
+    → offends v l ≡ false) where
   abbrev pub summed : ℕ → ℕ
   summed l = pick (laterYear book date) 0 (totalAt book l) + pick (offends v l) 1 0
 
   -- what is carried leaves room for one more
-  carried : (l : ℕ) → l < ladders (v .shape .kinds) → pick (laterYear book date) 0 (totalAt book l) + 1 ≤ dayNumber date
+  carried : (l : ℕ) → l < ladders (v .shape .kinds)
+      → pick (laterYear book date) 0 (totalAt book l) + 1 ≤ dayNumber date
   carried l h = go (laterYear book date) refl
     where
-      rises : year (lastDate book) ≡ year date → (lastDate book ≡ 0) ⊎ (realDay (lastDate book) ≡ true) → dayNumber (lastDate book) < dayNumber date
+      rises : year (lastDate book) ≡ year date → (lastDate book ≡ 0) ⊎ (realDay (lastDate book) ≡ true)
+          → dayNumber (lastDate book) < dayNumber date
       rises y (inl z) = absurd (omega (arith, real date day .first-year))
       rises y (inr r) = number-rises (lastDate book) date r day y later
 
@@ -52,7 +57,13 @@ module _ (v : Verdict) (date : ℕ) (book : List ℕ) (s : SoundBook (v .shape) 
       go false e =
           let q : pick (laterYear book date) 0 (totalAt book l) ≡ totalAt book l = sym (pick-no _ _ _ _ e refl) in
           let y : year (lastDate book) ≡ year date = omega (arith, ltb-false (year (lastDate book)) (year date) e) in
-          omega (arith, rises y (dated-cases (lastDate book) (s .date)), s .totals l h, most-le (rulebookOf book) (dayNumber (lastDate book)) l)
+          omega (
+            arith,
+            rises y (dated-cases (lastDate book) (s .date)),
+            s .totals l h,
+            most-le (rulebookOf book)
+                (dayNumber (lastDate book)) l,
+          )
 
   summed-most : (l : ℕ) → l < ladders (v .shape .kinds) → summed l ≤ mostOf (v .rulebook) (dayNumber date) l
   summed-most l h = go (shut (v .rulebook) l) refl
@@ -60,11 +71,18 @@ module _ (v : Verdict) (date : ℕ) (book : List ℕ) (s : SoundBook (v .shape) 
       go : (b : Bool) → shut (v .rulebook) l ≡ b → summed l ≤ mostOf (v .rulebook) (dayNumber date) l
       go true e =
           let z : _≡_ {A = ℕ} (pick (offends v l) 1 0) 0 = sym (pick-no _ _ _ _ (none l e) refl) in
-          let n : mostOf (rulebookOf book) (dayNumber (lastDate book)) l ≡ 0 = rw same (most-none (v .rulebook) (dayNumber (lastDate book)) l e) in
+          let n : mostOf (rulebookOf book) (dayNumber (lastDate book)) l ≡ 0 =
+          rw same (most-none (v .rulebook) (dayNumber (lastDate book)) l e) in
           let m = s .totals l h in
           omega (arith, pick-le (laterYear book date) 0 (totalAt book l) 0 (omega arith) (omega arith))
       go false e =
-          omega (arith, carried l h, pick-le (offends v l) 1 0 1 (omega arith) (omega arith), most-day (v .rulebook) (dayNumber date) l e)
+          omega (
+            arith,
+            carried l h,
+            pick-le (offends v l) 1 0 1 (omega arith) (omega arith),
+            most-day (v .rulebook)
+                (dayNumber date) l e,
+          )
 
   pub after-is : (l : ℕ) → l < ladders (v .shape .kinds) → totalAfter v date book l ≡ summed l
   unfolding totalAfter nextTotal

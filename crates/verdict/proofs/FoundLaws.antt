@@ -1,4 +1,5 @@
--- Laws of the list of findings: what the writes leave, one more where a ladder has an offence, how long it is. Assumes nothing.
+-- Laws of the list of findings: what the writes leave, one more where a ladder has an offence, how long it is.
+-- Assumes nothing.
 use mathlib.Core.Path.{_≡_, refl, sym, ap, _∙_}
 use mathlib.Core.Bool.{Bool, true, false}
 use mathlib.Core.List.{List, []}
@@ -26,19 +27,23 @@ use Rattle.posting.specs.Raise.{laterYear, nextTotal, placeIn}
 use Rattle.verdict.specs.Verdict.{Verdict, offends, finding, totalAfter, sanctionAt, foundAt, verdictIn}
 use Rattle.verdict.specs.Way.{sanctionFor}
 
-pub finding-length : (kinds : Kinds) (ladder sanction total id : ℕ) → length (finding kinds ladder sanction total id) ≡ 8
+pub finding-length : (kinds : Kinds) (ladder sanction total id : ℕ) → length (finding kinds ladder sanction total id)
+    ≡ 8
 unfolding finding bytes
 finding-length kinds ladder sanction total id = refl
 
-pub finding-written : (kinds : Kinds) (s r r′ : List ℕ) (at ladder group kind sanction total id : ℕ) → at + 8 ≤ length s
+pub finding-written : (kinds : Kinds) (s r r′ : List ℕ) (at ladder group kind sanction total id : ℕ)
+    → at + 8 ≤ length s
     → group ≡ groupAt kinds ladder → kind ≡ kindAt kinds ladder
-    → r ≡ putIn (set (set (set (set s at group) (at + 1) kind) (at + 2) (familyAt ladder)) (at + 3) sanction) (at + 4) (bytes 2 total)
+    → r ≡ putIn (set (set (set (set s at group) (at + 1) kind) (at + 2) (familyAt ladder)) (at + 3) sanction) (at + 4)
+    (bytes 2 total)
     → r′ ≡ putIn r (at + 6) (bytes 2 id) → r′ ≡ put s at (finding kinds ladder sanction total id)
 unfolding finding bytes
 finding-written kinds s r r′ at ladder group kind sanction total id h g k e e′ =
     rw (← g, ← k)
     (then-in s r r′ _ _ at (at + 6)
-    (then-in s _ r _ _ at (at + 4) (put-four s at group kind (familyAt ladder) sanction (omega arith)) refl e (omega arith))
+    (then-in s _ r _ _ at (at + 4) (put-four s at group kind (familyAt ladder) sanction (omega arith)) refl e
+    (omega arith))
     refl e′ (omega arith))
 
 -- ---- one more where a test holds, what is written then, and room for it
@@ -48,7 +53,8 @@ more-yes t n e = ap (λ (k : ℕ). n + k) (pick-yes t 1 1 0 e refl)
 pub more-no : (t : Bool) (n : ℕ) → t ≡ false → n ≡ n + pick t 1 0
 more-no t n e = sym (add-zero n) ∙ ap (λ (k : ℕ). n + k) (pick-no t 0 1 0 e refl)
 
-pub put-yes : (t : Bool) (s r p p′ : List ℕ) (at : ℕ) → t ≡ true → r ≡ put s at p → p ≡ p′ → r ≡ put s at (pick t p′ [])
+pub put-yes : (t : Bool) (s r p p′ : List ℕ) (at : ℕ) → t ≡ true → r ≡ put s at p → p ≡ p′
+    → r ≡ put s at (pick t p′ [])
 put-yes t s r p p′ at h e q = e ∙ ap (put s at) (pick-yes t p p′ [] h q)
 
 pub put-no : (t : Bool) (s p : List ℕ) (at : ℕ) → t ≡ false → s ≡ put s at (pick t p [])
@@ -57,7 +63,8 @@ put-no t s p at h = sym (put-none s at) ∙ ap (put s at) (pick-no t [] p [] h r
 pub room-yes : (t : Bool) (n m : ℕ) → t ≡ true → 8 * (n + pick t 1 0) ≤ m → 8 * n + 8 ≤ m
 room-yes t n m e h = omega (arith, more-yes t n e)
 
-pub count-room : (p : ℕ → Bool) (n l k m m′ : ℕ) → n ≡ count p l → l < k → 8 * count p k ≤ m → m′ ≡ m → 8 * (n + pick (p l) 1 0) ≤ m′
+pub count-room : (p : ℕ → Bool) (n l k m m′ : ℕ) → n ≡ count p l → l < k → 8 * count p k ≤ m → m′ ≡ m
+    → 8 * (n + pick (p l) 1 0) ≤ m′
 count-room p n l k m m′ e h w q = omega (arith, count-up p (l + 1) k (omega arith), count-more p l)
 
 -- how many there are after a turn of `list_all`
@@ -75,7 +82,8 @@ module _ (v : Verdict) (date : ℕ) (book : List ℕ) where
   pub found-turn : (s r r′ : List ℕ) (n l : ℕ) → n ≡ count (offends v) l → r ≡ put s 0 (rows (foundAt v date book) l)
       → r′ ≡ put r (8 * n) (foundAt v date book l) → r′ ≡ put s 0 (rows (foundAt v date book) (l + 1))
   found-turn s r r′ n l w e e′ =
-      then s r r′ (rows (foundAt v date book) l) (foundAt v date book l) 0 (8 * n) zero-le e (omega (arith, found-length l)) e′
+      then s r r′ (rows (foundAt v date book) l) (foundAt v date book l) 0 (8 * n) zero-le e
+      (omega (arith, found-length l)) e′
       ∙ ap (put s 0) (sym (rows-more (foundAt v date book) l))
 
 -- what the calls of `sanction_for` gave: the group, whether it has a member, the kind, the rung

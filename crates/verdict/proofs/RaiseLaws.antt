@@ -1,4 +1,5 @@
--- Laws of the book raised group by group: a turn of the loop that lends each group's part, and the whole book. Assumes nothing.
+-- Laws of the book raised group by group: a turn of the loop that lends each group's part, and the whole book.
+-- Assumes nothing.
 use mathlib.Core.Path.{_≡_, refl, sym, ap, ap₂, _∙_}
 use mathlib.Core.Bool.{Bool}
 use mathlib.Core.List.{List, _++_}
@@ -24,13 +25,15 @@ use Rattle.verdict.specs.Way.{totalBytes}
 -- a part that comes back is put where it was lent from
 pub mid-put : (s p : List ℕ) (a k : ℕ) → length p ≡ k → putMid a k s p ≡ put s a p
 unfolding put
-mid-put s p a k e = ap (λ (l : List ℕ). take a s ++ (p ++ l)) (drop-drop k a s ∙ ap (λ (n : ℕ). drop (a + n) s) (sym e))
+mid-put s p a k e = ap (λ (l : List ℕ). take a s ++ (p ++ l)) (drop-drop k a s ∙ ap (λ (n : ℕ). drop (a + n) s)
+    (sym e))
 
 -- the totals of a group's ladders, `own` of them
 doubled : (own g j : ℕ) → 16 + 2 * own * g + 2 * j ≡ 16 + 2 * (own * g + j)
 doubled own g j = let q : 2 * own * g ≡ 2 * (own * g) = mul-assoc 2 own g in omega arith
 
--- where n is the number of kinds: a group's part is in the book, all parts up to a group are, and all numbers are small
+-- where n is the number of kinds: a group's part is in the book, all parts up to a group are, and all numbers are
+-- small
 pub part-fits : (kinds : Kinds) (n g : ℕ) → n ≡ kindsIn kinds → g < 128
     → (16 + 2 * (16 * n) * g + 2 * (16 * n) ≤ bookSize kinds) × (16 * n * g ≤ 8192) × (bookSize kinds ≤ 16400)
 part-fits kinds n g e h =
@@ -56,7 +59,8 @@ module _ (own : ℕ) (later : Bool) (places book : List ℕ) (contracts : ℕ) w
   row-length l = bytes-length 2 _
 
   group-length : (g : ℕ) → length (groupBytes g) ≡ 2 * own
-  group-length g = rows-length (λ j. totalBytes later places book contracts (own * g + j)) 2 (λ j. row-length (own * g + j)) own
+  group-length g = rows-length (λ j. totalBytes later places book contracts (own * g + j)) 2
+      (λ j. row-length (own * g + j)) own
 
   all-length : (g : ℕ) → length (rows groupBytes g) ≡ 2 * own * g
   all-length g = rows-length groupBytes (2 * own) group-length g
@@ -97,7 +101,8 @@ module _ (own : ℕ) (later : Bool) (places book : List ℕ) (contracts : ℕ) w
         row j = bytes 2 (nextTotal later (hitAt places contracts (own * g + j)) (le 2 part (2 * j)))
 
     -- a turn of the loop over the groups: the part that was lent comes back as p
-    pub group-turn : (p : List ℕ) → p ≡ raisedPart (take (begins + 2 * own - begins) (drop begins b)) later places (own * g) contracts
+    pub group-turn : (p : List ℕ) → p ≡ raisedPart (take (begins + 2 * own - begins) (drop begins b)) later places
+        (own * g) contracts
         → putMid begins (begins + 2 * own - begins) b p ≡ put book 16 (rows groupBytes (g + 1))
     group-turn p q =
         let size : begins + 2 * own - begins ≡ 2 * own = omega arith in
@@ -116,4 +121,5 @@ module _ (own : ℕ) (later : Bool) (places book : List ℕ) (contracts : ℕ) w
 
   -- all groups' bytes are all ladders'
   pub all-groups : (n : ℕ) → own * 128 ≡ n → rows groupBytes 128 ≡ rows (totalBytes later places book contracts) n
-  all-groups n e = rows-rows (totalBytes later places book contracts) own 128 ∙ ap (rows (totalBytes later places book contracts)) e
+  all-groups n e = rows-rows (totalBytes later places book contracts) own 128
+      ∙ ap (rows (totalBytes later places book contracts)) e

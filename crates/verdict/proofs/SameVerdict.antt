@@ -24,7 +24,8 @@ use Rattle.places.proofs.LadderLaws.{group-low}
 use Rattle.verdict.specs.declared.settle.Settled.{Settled}
 use Rattle.verdict.specs.declared.settle.Settled.the-variants.{Found, Refused}
 use Rattle.verdict.specs.Settle.{shortFault, settleFault, SettleGives}
-use Rattle.verdict.specs.Verdict.{Verdict, offends, foundCount, finding, totalAfter, sanctionAt, foundAt, findings, bookAfter}
+use Rattle.verdict.specs.Verdict.{Verdict, offends, foundCount, finding, totalAfter, sanctionAt, foundAt}
+use Rattle.verdict.specs.Verdict.{findings, bookAfter}
 
 -- they agree where it counts: on the ladders, on contracts that are there, on groups 1 to 128
 pub record Same (v w : Verdict) : Type 0 where
@@ -39,7 +40,8 @@ sanction-same : {r r′ k k′ n n′ : ℕ} {m m′ : Bool} → r ≡ r′ → 
     → sanction r k (rung n) m ≡ sanction r′ k′ (rung n′) m′
 sanction-same p q u w = rw (p, q, u, w)
 
-finding-same : (l : ℕ) {k k′ : Kinds} {s s′ n n′ i i′ : ℕ} → k ≡ k′ → s ≡ s′ → n ≡ n′ → i ≡ i′ → finding k l s n i ≡ finding k′ l s′ n′ i′
+finding-same : (l : ℕ) {k k′ : Kinds} {s s′ n n′ i i′ : ℕ} → k ≡ k′ → s ≡ s′ → n ≡ n′ → i ≡ i′ → finding k l s n i
+    ≡ finding k′ l s′ n′ i′
 finding-same l p q u w = rw (p, q, u, w)
 
 module _ (v w : Verdict) (s : Same v w) where
@@ -102,7 +104,8 @@ module _ (v w : Verdict) (s : Same v w) (date : ℕ) (book out : List ℕ) where
       ap₂ (λ k n. pick (not (eqb (length book) (bookSize k))) 17 (pick (ltb (length out) (8 * n)) 20 0))
       (ap (λ x. x .kinds) (s .shape)) (same-count v w s)
 
-  pub settle-same : {a : Settled} {b o : List ℕ} → SettleGives v date book out a b o → SettleGives w date book out a b o
+  pub settle-same : {a : Settled} {b o : List ℕ} → SettleGives v date book out a b o
+      → SettleGives w date book out a b o
   settle-same g = record {
     answer = g .answer ∙ ap₂ (λ (f n : ℕ). answered f (Found n) Refused) fault-same (same-count v w s);
     after =

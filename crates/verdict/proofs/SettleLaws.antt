@@ -16,14 +16,16 @@ use Rattle.places.specs.Places.{ladders, bookSize}
 use Rattle.book.specs.Layout.{headOf, bookAs}
 use Rattle.posting.specs.Raise.{laterYear}
 use Rattle.book.proofs.BookLaws.{head-length}
-use Rattle.verdict.specs.Verdict.{Verdict, offends, foundCount, totalAfter, findings, bookAfter, verdictIn, foundIn}
+use Rattle.verdict.specs.Verdict.{Verdict, offends, foundCount, totalAfter, findings, bookAfter, verdictIn}
+use Rattle.verdict.specs.Verdict.{foundIn}
 use Rattle.verdict.specs.declared.settle.Settled.the-variants.{Found, Refused}
 use Rattle.verdict.specs.Settle.{shortFault, settleFault, SettleGives}
 use Rattle.verdict.specs.Way.{totalBytes}
 use Rattle.verdict.proofs.RaiseLaws.{row-length}
 
 -- the number of the refusal, by the two tests
-pub long-fault : (v : Verdict) (book out : List ℕ) → length book ≡ bookSize (v .shape .kinds) → settleFault v book out ≡ shortFault v (length out)
+pub long-fault : (v : Verdict) (book out : List ℕ) → length book ≡ bookSize (v .shape .kinds) → settleFault v book out
+    ≡ shortFault v (length out)
 unfolding settleFault
 long-fault v book out e = sym (pick-no _ _ _ _ (flip-no _ (eq-eqb _ _ e)) refl)
 
@@ -34,7 +36,8 @@ found-most v = count-le (offends v) (ladders (v .shape .kinds))
 
 module _ (shape : Shape) (rulebook : ℕ) (places ids members : List ℕ) where
   -- the findings are counted by the places alone
-  pub found-in : foundIn (shape .kinds) places (length ids / 2) ≡ foundCount (verdictIn shape rulebook places ids members)
+  pub found-in : foundIn (shape .kinds) places (length ids / 2)
+      ≡ foundCount (verdictIn shape rulebook places ids members)
   unfolding foundIn foundCount verdictIn offends
   found-in = refl
 
@@ -77,11 +80,15 @@ module _ (shape : Shape) (rulebook : ℕ) (places ids members : List ℕ) where
     pub settle-short : length out < 8 * n → SettleGives v date book out (Refused 20) book out
     unfolding shortFault
     settle-short h =
-        refused _ 20 (pick-yes _ _ _ _ (lt-ltb (length out) (8 * foundCount v) (omega (arith, counted, found-in))) refl ∙ sym fault-is) (λ z. absurd (omega arith))
+        refused _ 20 (pick-yes _ _ _ _ (lt-ltb (length out) (8 * foundCount v) (omega (arith, counted, found-in)))
+        refl ∙ sym fault-is) (λ z. absurd (omega arith))
 
-    pub settle-done : {b o : List ℕ} → 8 * n ≤ length out → b ≡ bookAfter v date book → o ≡ put out 0 (findings v date book)
+    pub settle-done : {b o : List ℕ} → 8 * n ≤ length out → b ≡ bookAfter v date book
+        → o ≡ put out 0 (findings v date book)
         → SettleGives v date book out (Found n) b o
     unfolding shortFault
     settle-done h p q =
-        done _ (fault-is ∙ sym (pick-no _ _ _ _ (le-ltb (length out) (8 * foundCount v) (omega (arith, counted, found-in))) refl)) (ap Found (counted ∙ found-in))
+        done _ (fault-is
+        ∙ sym (pick-no _ _ _ _ (le-ltb (length out) (8 * foundCount v) (omega (arith, counted, found-in))) refl))
+        (ap Found (counted ∙ found-in))
         (ap₂ (λ x y. (x, y)) p q)

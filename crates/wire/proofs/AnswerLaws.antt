@@ -26,7 +26,8 @@ module _ {A : Type 0} (d : A) (r : ℕ → A) where
   answer-then f g e is = rw (or-else f g e) is
 
   -- the paper's number of it: 0 where it is done, and the refusal's
-  pub answer-number : (number : A → ℕ) (fault : ℕ) → number d ≡ 0 → number (r fault) ≡ fault → number (answered fault d r) ≡ fault
+  pub answer-number : (number : A → ℕ) (fault : ℕ) → number d ≡ 0 → number (r fault) ≡ fault
+      → number (answered fault d r) ≡ fault
   unfolding answered
   answer-number number fault y n = go (eqb fault 0) refl
     where
@@ -35,7 +36,8 @@ module _ {A : Type 0} (d : A) (r : ℕ → A) where
       go false e = ap number (sym (pick-no _ _ _ _ e refl)) ∙ n
 
 -- an answer told in other words is chosen by the same number
-pub answer-map : {A B : Type 0} (f : A → B) (d : A) (r : ℕ → A) (fault : ℕ) → f (answered fault d r) ≡ answered fault (f d) (λ n. f (r n))
+pub answer-map : {A B : Type 0} (f : A → B) (d : A) (r : ℕ → A) (fault : ℕ) → f (answered fault d r)
+    ≡ answered fault (f d) (λ n. f (r n))
 unfolding answered
 answer-map f d r fault = go (eqb fault 0) refl
   where
@@ -52,7 +54,11 @@ module _ {A B : Type 0} {d : A} {r : ℕ → A} {new old : B} where
   }
 
   pub done : (fault : ℕ) {a : A} {b : B} → fault ≡ 0 → a ≡ d → b ≡ new → Outcome fault d r new old a b
-  done fault e is after = record { answer = answer-done d r fault e is; after = pick-yes _ _ _ _ (eq-eqb fault 0 e) after }
+  done fault e is after = record {
+    answer = answer-done d r fault e is;
+    after =
+        pick-yes _ _ _ _ (eq-eqb fault 0 e) after;
+  }
 
   pub refused-first : (f g n : ℕ) → n ≡ f → (n ≡ 0 → ⊥) → Outcome (orElse f g) d r new old (r n) old
   refused-first f g n e some = refused (orElse f g) n (or-first-by f g n e some) some
@@ -61,7 +67,8 @@ module _ {A B : Type 0} {d : A} {r : ℕ → A} {new old : B} where
   then-by f g e o = rw (or-else f g e) o
 
   -- no second outcome
-  pub one-outcome : {fault : ℕ} {a₁ a₂ : A} {b₁ b₂ : B} → Outcome fault d r new old a₁ b₁ → Outcome fault d r new old a₂ b₂
+  pub one-outcome : {fault : ℕ} {a₁ a₂ : A} {b₁ b₂ : B} → Outcome fault d r new old a₁ b₁
+      → Outcome fault d r new old a₂ b₂
       → (a₁ ≡ a₂) × (b₁ ≡ b₂)
   one-outcome p q = (p .answer ∙ sym (q .answer), p .after ∙ sym (q .after))
 

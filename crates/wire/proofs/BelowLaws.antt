@@ -1,4 +1,5 @@
--- Laws of the questions asked of all numbers below one: a step, an end, and what a yes or a no says of each. Assumes nothing.
+-- Laws of the questions asked of all numbers below one: a step, an end, and what a yes or a no says of each. Assumes
+-- nothing.
 use mathlib.Core.Path.{_≡_, refl, sym, ap, ap₂, _∙_}
 use mathlib.Core.Logic.{⊎-elim}
 use mathlib.Core.Bool.{Bool, true, false, _&&_, and-false, not}
@@ -36,7 +37,8 @@ module _ (p : ℕ → Bool) where
   unfolding every
   every-at zero k t l = absurd (not-suc-le-zero l)
   every-at (suc n) k t l =
-      ⊎-elim (λ (e : k ≡ n). rw e (and-right (every p n) (p n) t)) (λ (m : k < n). every-at n k (and-left (every p n) (p n) t) m)
+      ⊎-elim (λ (e : k ≡ n). rw e (and-right (every p n) (p n) t))
+      (λ (m : k < n). every-at n k (and-left (every p n) (p n) t) m)
       (eq-or-lt-of-le (le-of-suc-le-suc l))
 
   pub every-all : (n : ℕ) → ((k : ℕ) → k < n → p k ≡ true) → every p n ≡ true
@@ -61,7 +63,8 @@ module _ (p : ℕ → Bool) where
   unfolding count
   count-up i zero h = let e : i ≡ 0 = omega arith in rw e zero-le
   count-up i (suc n) h =
-      ⊎-elim (λ (q : i ≡ suc n). rw q (omega arith)) (λ (l : i < suc n). omega (arith, count-up i n (le-of-suc-le-suc l)))
+      ⊎-elim (λ (q : i ≡ suc n). rw q (omega arith))
+      (λ (l : i < suc n). omega (arith, count-up i n (le-of-suc-le-suc l)))
       (eq-or-lt-of-le h)
 
 module _ (p q : ℕ → Bool) where
@@ -89,7 +92,8 @@ pub first-none : (p : ℕ → Bool) (n : ℕ) → ((k : ℕ) → k < n → p k �
 unfolding first
 first-none p zero none = refl
 first-none p (suc n) none =
-    sym (pick-no _ _ _ _ (none 0 (omega arith)) refl) ∙ ap suc (first-none (λ k. p (suc k)) n (λ k l. none (suc k) (suc-le-suc l)))
+    sym (pick-no _ _ _ _ (none 0 (omega arith)) refl)
+    ∙ ap suc (first-none (λ k. p (suc k)) n (λ k l. none (suc k) (suc-le-suc l)))
 
 pub first-le : (p : ℕ → Bool) (n : ℕ) → first p n ≤ n
 unfolding first
@@ -112,7 +116,8 @@ first-passes p (suc n) h = go (p 0) refl (first-passes (λ k. p (suc k)) n)
         → p (pick (p 0) 0 (suc (first (λ k. p (suc k)) n))) ≡ true
     go true e more = ap p (sym (pick-yes _ _ _ _ e refl)) ∙ e
     go false e more =
-        let q : pick (p 0) 0 (suc (first (λ k. p (suc k)) n)) ≡ suc (first (λ k. p (suc k)) n) = sym (pick-no _ _ _ _ e refl) in
+        let q : pick (p 0) 0 (suc (first (λ k. p (suc k)) n)) ≡ suc (first (λ k. p (suc k)) n) =
+        sym (pick-no _ _ _ _ e refl) in
         ap p q ∙ more (le-of-suc-le-suc (rw q at h))
 
 -- nothing before it passes
@@ -125,7 +130,8 @@ first-below p (suc n) k h = go (p 0) k refl h (first-below (λ i. p (suc i)) n)
         → ((i : ℕ) → i < first (λ i. p (suc i)) n → p (suc i) ≡ false) → p k ≡ false
     go true k e h more = absurd (omega (arith, pick-yes {A = ℕ} (p 0) 0 0 (suc (first (λ i. p (suc i)) n)) e refl))
     go false zero e h more = e
-    go false (suc k) e h more = more k (omega (arith, pick-no {A = ℕ} (p 0) _ 0 (suc (first (λ i. p (suc i)) n)) e refl))
+    go false (suc k) e h more =
+        more k (omega (arith, pick-no {A = ℕ} (p 0) _ 0 (suc (first (λ i. p (suc i)) n)) e refl))
 
 pub first-some : (p : ℕ → Bool) (n : ℕ) → ltb (first p n) n ≡ some p n
 unfolding some
@@ -161,7 +167,15 @@ module _ (p : ℕ → Bool) where
 
   later : (n j : ℕ) → Passed p n j → Passed p (suc n) j
   later n j q =
-      record { place = q .place; is = record { below = omega (arith, q .is .below); passes = q .is .passes; before = q .is .before } }
+      record {
+        place = q .place;
+        is = record {
+          below = omega (arith, q .is .below);
+          passes = q .is .passes;
+          before =
+              q .is .before;
+        };
+      }
 
   -- every number below the count is that of a place
   pub passed : (n j : ℕ) → j < count p n → Passed p n j
@@ -171,8 +185,17 @@ module _ (p : ℕ → Bool) where
     where
       go : (t : Bool) → p n ≡ t → (j < count p n → Passed p n j) → Passed p (suc n) j
       go true e more =
-          ⊎-elim (λ (q : j ≡ count p n). record { place = n; is = record { below = omega arith; passes = e; before = sym q } })
-          (λ (l : j < count p n). later n j (more l)) (eq-or-lt-of-le (omega (arith, pick-yes {A = ℕ} (p n) 1 1 0 e refl)))
+          ⊎-elim (λ (q : j ≡ count p n). record {
+            place = n;
+            is = record {
+              below = omega arith;
+              passes = e;
+              before =
+                  sym q;
+            };
+          })
+          (λ (l : j < count p n). later n j (more l))
+          (eq-or-lt-of-le (omega (arith, pick-yes {A = ℕ} (p n) 1 1 0 e refl)))
       go false e more = later n j (more (omega (arith, pick-no {A = ℕ} (p n) 0 1 0 e refl)))
 
 -- ---- whether some number passes
@@ -198,6 +221,7 @@ some-more p q n h e = go (every (λ k. not (q k)) n) refl
     go : (t : Bool) → every (λ k. not (q k)) n ≡ t → not (every (λ k. not (q k)) n) ≡ true
     go false f = flip-yes _ f
     go true f =
-        let all : every (λ k. not (p k)) n ≡ true = every-all (λ k. not (p k)) n (λ k l. none k (not-true _ (every-at (λ k. not (q k)) n k f l))) in
+        let all : every (λ k. not (p k)) n ≡ true =
+        every-all (λ k. not (p k)) n (λ k l. none k (not-true _ (every-at (λ k. not (q k)) n k f l))) in
         let y : false ≡ true = sym (flip-no _ all) ∙ e in
         cc

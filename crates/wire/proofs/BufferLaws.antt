@@ -3,12 +3,15 @@ use mathlib.Core.Path.{_≡_, refl, sym, ap, ap₂, _∙_}
 use mathlib.Core.Logic.{⊎-elim}
 use mathlib.Core.List.{List, [], _∷_, _++_, append-assoc, append-nil}
 use Prim.Native.Nat.{ℕ, zero, suc, _+_, _-_, _*_, _^_, _<_, _≤_}
-use native.Mathlib.Nat.{zero-add, le-of-suc-le-suc, not-suc-le-zero, eq-or-lt-of-le, add-zero, add-suc, mul-zero, mul-suc, mul-le-mul-left}
+use native.Mathlib.Nat.{zero-add, le-of-suc-le-suc, not-suc-le-zero, eq-or-lt-of-le, add-zero, add-suc, mul-zero}
+use native.Mathlib.Nat.{mul-suc, mul-le-mul-left}
 use native.Mathlib.Numerals.{add-one}
 use native.Mathlib.Omega.{arith}
 use borrow.Author.Tests.{le-leb, lt-leb}
-use lib.ListN.{length, getD, take, drop, set, length-append, length-take, length-drop, take-append-drop, drop-of-length-le, List·getD-append}
-use lib.Seq.{take-at, drop-at, drop-drop, getD-take, getD-drop, getD-append-add, length-take-le, drop-length, sets, sets-eq}
+use lib.ListN.{length, getD, take, drop, set, length-append, length-take, length-drop, take-append-drop}
+use lib.ListN.{drop-of-length-le, List·getD-append}
+use lib.Seq.{take-at, drop-at, drop-drop, getD-take, getD-drop, getD-append-add, length-take-le, drop-length, sets}
+use lib.Seq.{sets-eq}
 use Rattle.wire.specs.Bytes.{le, bytes}
 use Rattle.wire.specs.Buffers.{put, putIn, rows}
 use Rattle.wire.proofs.ChoiceLaws.{pick-yes, pick-no}
@@ -36,7 +39,8 @@ put-four s at a b c d h =
     rw (add-one, two, three) (put-sets s at (a ∷ b ∷ c ∷ d ∷ []) h)
 
 -- a number written where it fits, and one that does not fit
-pub fitting : (n : ℕ) (s r : List ℕ) (at v : ℕ) → at + n ≤ length s → r ≡ put s at (bytes n v) → r ≡ putIn s at (bytes n v)
+pub fitting : (n : ℕ) (s r : List ℕ) (at v : ℕ) → at + n ≤ length s → r ≡ put s at (bytes n v)
+    → r ≡ putIn s at (bytes n v)
 fitting n s r at v h e = e ∙ sym (put-in s at (bytes n v) (rw bytes-length h))
 
 pub past-end : (s : List ℕ) (at : ℕ) (p : List ℕ) → length s < at + length p → s ≡ putIn s at p
@@ -62,13 +66,16 @@ module _ (s : List ℕ) (at : ℕ) (p : List ℕ) (h : at + length p ≤ length 
   pub getD-put-in : (k : ℕ) → k < length p → getD (put s at p) (at + k) 0 ≡ getD p k 0
   unfolding put
   getD-put-in k l =
-      ap (λ (n : ℕ). getD (take at s ++ (p ++ drop (at + length p) s)) (n + k) 0) (sym (length-take-le at s (omega arith)))
-      ∙ getD-append-add (take at s) (p ++ drop (at + length p) s) k 0 ∙ List·getD-append p (drop (at + length p) s) 0 k l
+      ap (λ (n : ℕ). getD (take at s ++ (p ++ drop (at + length p) s)) (n + k) 0)
+      (sym (length-take-le at s (omega arith)))
+      ∙ getD-append-add (take at s) (p ++ drop (at + length p) s) k 0 ∙ List·getD-append p
+      (drop (at + length p) s) 0 k l
 
   pub getD-put-before : (k : ℕ) → k < at → getD (put s at p) k 0 ≡ getD s k 0
   unfolding put
   getD-put-before k l =
-      List·getD-append (take at s) (p ++ drop (at + length p) s) 0 k (omega (arith, length-take-le at s (omega arith))) ∙ getD-take at s k 0 l
+      List·getD-append (take at s) (p ++ drop (at + length p) s) 0 k
+      (omega (arith, length-take-le at s (omega arith))) ∙ getD-take at s k 0 l
 
   pub getD-put-after : (k : ℕ) → getD (put s at p) (at + length p + k) 0 ≡ getD s (at + length p + k) 0
   unfolding put
@@ -96,11 +103,13 @@ module _ (s : List ℕ) (at : ℕ) (p : List ℕ) (h : at + length p ≤ length 
 pub le-put : (n : ℕ) (s : List ℕ) (at v : ℕ) → at + n ≤ length s → v < 256 ^ n → le n (put s at (bytes n v)) at ≡ v
 le-put n s at v h l =
     le-cong n (put s at (bytes n v)) (bytes n v) at 0
-    (λ k m. rw zero-add (getD-put-in s at (bytes n v) (omega (arith, bytes-length n v)) k (omega (arith, bytes-length n v))))
+    (λ k m. rw zero-add (getD-put-in s at (bytes n v) (omega (arith, bytes-length n v)) k
+    (omega (arith, bytes-length n v))))
     ∙ le-bytes n v l
 
 -- one put after another, where the second begins as the first ends, is one put
-pub then : (s r r′ p q : List ℕ) (at k : ℕ) → at ≤ length s → r ≡ put s at p → k ≡ at + length p → r′ ≡ put r k q → r′ ≡ put s at (p ++ q)
+pub then : (s r r′ p q : List ℕ) (at k : ℕ) → at ≤ length s → r ≡ put s at p → k ≡ at + length p → r′ ≡ put r k q
+    → r′ ≡ put s at (p ++ q)
 unfolding put
 then s r r′ p q at k h e w e′ = e′ ∙ ap₂ (λ (a b : List ℕ). a ++ (q ++ b)) front back ∙ regroup
   where
@@ -118,10 +127,12 @@ then s r r′ p q at k h e w e′ = e′ ∙ ap₂ (λ (a b : List ℕ). a ++ (q
 
     back : drop (k + length q) r ≡ drop (at + length (p ++ q)) s
     back =
-        sym (drop-drop (length q) k r) ∙ ap (drop (length q)) (ap (drop k) r-is ∙ drop-at (take at s ++ p) (drop (at + length p) s) k head-length)
+        sym (drop-drop (length q) k r) ∙ ap (drop (length q))
+        (ap (drop k) r-is ∙ drop-at (take at s ++ p) (drop (at + length p) s) k head-length)
         ∙ drop-drop (length q) (at + length p) s ∙ ap (λ (n : ℕ). drop n s) (place (length-append p q))
 
-    regroup : (take at s ++ p) ++ (q ++ drop (at + length (p ++ q)) s) ≡ take at s ++ ((p ++ q) ++ drop (at + length (p ++ q)) s)
+    regroup : (take at s ++ p) ++ (q ++ drop (at + length (p ++ q)) s)
+        ≡ take at s ++ ((p ++ q) ++ drop (at + length (p ++ q)) s)
     regroup = simp append-assoc
 
 -- what is put to the end, and then what is put before it, is the whole
@@ -130,8 +141,10 @@ unfolding put
 put-both s p q n e w =
     let z : 0 + length p ≡ n = omega arith in
     ap (λ (k : ℕ). p ++ drop k (take n s ++ (q ++ drop (n + length q) s))) z
-    ∙ ap (λ (l : List ℕ). p ++ l) (drop-at (take n s) (q ++ drop (n + length q) s) n (length-take-le n s (omega arith)))
-    ∙ ap (λ (l : List ℕ). p ++ (q ++ l)) (drop-of-length-le s {i = n + length q} (omega arith)) ∙ ap (λ (l : List ℕ). p ++ l) (append-nil q)
+    ∙ ap (λ (l : List ℕ). p ++ l) (drop-at (take n s) (q ++ drop (n + length q) s) n
+    (length-take-le n s (omega arith)))
+    ∙ ap (λ (l : List ℕ). p ++ (q ++ l)) (drop-of-length-le s {i = n + length q} (omega arith))
+    ∙ ap (λ (l : List ℕ). p ++ l) (append-nil q)
 
 -- ---- rows
 module _ (f : ℕ → List ℕ) where
@@ -157,7 +170,8 @@ rows-rows f m (suc n) = rw (mul-suc, rows-add f (m * n) m, rows-rows f m n)
 pub rows-cong : (f g : ℕ → List ℕ) (n : ℕ) → ((k : ℕ) → k < n → f k ≡ g k) → rows f n ≡ rows g n
 unfolding rows
 rows-cong f g zero h = refl
-rows-cong f g (suc n) h = ap₂ (λ (a b : List ℕ). a ++ b) (rows-cong f g n (λ k l. h k (omega arith))) (h n (omega arith))
+rows-cong f g (suc n) h = ap₂ (λ (a b : List ℕ). a ++ b) (rows-cong f g n (λ k l. h k (omega arith)))
+    (h n (omega arith))
 
 -- rows that are all m long
 module _ (f : ℕ → List ℕ) (m : ℕ) (len : (k : ℕ) → length (f k) ≡ m) where
@@ -183,10 +197,12 @@ module _ (f : ℕ → List ℕ) (m : ℕ) (len : (k : ℕ) → length (f k) ≡ 
       (eq-or-lt-of-le (le-of-suc-le-suc h))
 
   -- a put that is the next row, after rows that are put
-  pub then-row : (s r r′ : List ℕ) (at k l : ℕ) → at ≤ length s → k ≡ at + m * l → r ≡ put s at (rows f l) → r′ ≡ put r k (f l)
+  pub then-row : (s r r′ : List ℕ) (at k l : ℕ) → at ≤ length s → k ≡ at + m * l → r ≡ put s at (rows f l)
+      → r′ ≡ put r k (f l)
       → r′ ≡ put s at (rows f (l + 1))
   then-row s r r′ at k l h w e e′ =
-      then s r r′ (rows f l) (f l) at k h e (w ∙ ap (λ (n : ℕ). at + n) (sym (rows-length l))) e′ ∙ ap (put s at) (sym (rows-more f l))
+      then s r r′ (rows f l) (f l) at k h e (w ∙ ap (λ (n : ℕ). at + n) (sym (rows-length l))) e′
+      ∙ ap (put s at) (sym (rows-more f l))
 
 pub no-rows : (s : List ℕ) (at : ℕ) (f : ℕ → List ℕ) → s ≡ put s at (rows f 0)
 no-rows s at f = sym (ap (put s at) (rows-none f) ∙ put-none s at)
@@ -195,7 +211,8 @@ no-rows s at f = sym (ap (put s at) (rows-none f) ∙ put-none s at)
 pub ones-at : (f : ℕ → ℕ) (n i : ℕ) → i < n → getD (rows (λ k. f k ∷ []) n) i 0 ≡ f i
 ones-at f n i h =
     let e : 1 * i + 0 ≡ i = omega arith in
-    ap (λ (k : ℕ). getD (rows (λ k. f k ∷ []) n) k 0) (sym e) ∙ rows-at (λ k. f k ∷ []) 1 (λ _. refl) n i 0 h (omega arith)
+    ap (λ (k : ℕ). getD (rows (λ k. f k ∷ []) n) k 0) (sym e) ∙ rows-at (λ k. f k ∷ []) 1 (λ _. refl) n i 0 h
+    (omega arith)
 
 pub ones-length : (f : ℕ → ℕ) (n : ℕ) → length (rows (λ k. f k ∷ []) n) ≡ n
 ones-length f n = omega (arith, rows-length (λ k. f k ∷ []) 1 (λ _. refl) n)

@@ -33,7 +33,8 @@ le-four s i j k l ej ek el =
     omega (arith, le-split 2 2 s i, le-two s i j ej, le-two s (i + 2) l (omega arith), ap (λ (n : ℕ). getD s n 0) ek)
 
 -- two places whose bytes agree hold the same number
-pub le-cong : (n : ℕ) (s t : List ℕ) (i j : ℕ) → ((k : ℕ) → k < n → getD s (i + k) 0 ≡ getD t (j + k) 0) → le n s i ≡ le n t j
+pub le-cong : (n : ℕ) (s t : List ℕ) (i j : ℕ) → ((k : ℕ) → k < n → getD s (i + k) 0 ≡ getD t (j + k) 0)
+    → le n s i ≡ le n t j
 unfolding le
 le-cong zero s t i j h = refl
 le-cong (suc n) s t i j h =
@@ -45,7 +46,8 @@ le-cong (suc n) s t i j h =
 
 -- a number in a part is the one in the whole
 pub le-drop : (n a : ℕ) (s : List ℕ) (i : ℕ) → le n (drop a s) i ≡ le n s (a + i)
-le-drop n a s i = le-cong n (drop a s) s i (a + i) (λ k l. getD-drop a s (i + k) 0 ∙ ap (λ (j : ℕ). getD s j 0) (sym (add-assoc a i k)))
+le-drop n a s i = le-cong n (drop a s) s i (a + i) (λ k l. getD-drop a s (i + k) 0 ∙ ap (λ (j : ℕ). getD s j 0)
+    (sym (add-assoc a i k)))
 
 pub le-take : (n e : ℕ) (s : List ℕ) (i : ℕ) → i + n ≤ e → le n (take e s) i ≡ le n s i
 le-take n e s i h = le-cong n (take e s) s i i (λ k l. getD-take e s (i + k) 0 (omega arith))

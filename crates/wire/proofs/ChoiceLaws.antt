@@ -4,7 +4,8 @@ use mathlib.Core.Bool.{Bool, true, false, not, _&&_, _||_, and-false}
 use Prim.Native.Nat.{ℕ, _≤_, _<_}
 use native.Mathlib.Omega.{arith}
 use lib.Dec.{leb, eqb}
-use borrow.Author.Tests.{eqb-true, eqb-false, leb-true, lt-ltb, le-ltb, le-leb, lt-leb, eq-eqb, ne-eqb, not-true, not-false}
+use borrow.Author.Tests.{eqb-true, eqb-false, leb-true, lt-ltb, le-ltb, le-leb, lt-leb, eq-eqb, ne-eqb, not-true}
+use borrow.Author.Tests.{not-false}
 use Rattle.wire.specs.Choice.{pick, within, orElse}
 
 module _ {A : Type 0} where
@@ -140,4 +141,5 @@ pub flip-no : (t : Bool) → t ≡ true → not t ≡ false
 flip-no t e = rw e
 
 -- what proves each return of a chain of early returns: `search chain`
-pub ruleset chain = (pick-yes, pick-no, told, told-yes, told-no, flip-yes, flip-no, lt-ltb, le-ltb, le-leb, lt-leb, eq-eqb, ne-eqb)
+pub ruleset chain =
+    (pick-yes, pick-no, told, told-yes, told-no, flip-yes, flip-no, lt-ltb, le-ltb, le-leb, lt-leb, eq-eqb, ne-eqb)

@@ -1,10 +1,12 @@
--- Laws of rows that are kept where a test holds, all of one length: how long they are, and where each stands. Assumes nothing.
+-- Laws of rows that are kept where a test holds, all of one length: how long they are, and where each stands. Assumes
+-- nothing.
 use mathlib.Core.Path.{_≡_, refl, sym, ap, ap₂, _∙_}
 use mathlib.Core.Logic.{⊎-elim}
 use mathlib.Core.Bool.{Bool, true, false}
 use mathlib.Core.List.{List, [], _++_}
 use Prim.Native.Nat.{ℕ, zero, suc, _+_, _*_, _<_, _≤_}
-use native.Mathlib.Nat.{not-suc-le-zero, le-of-suc-le-suc, eq-or-lt-of-le, mul-add, mul-one, mul-zero, mul-suc, mul-le-mul-left}
+use native.Mathlib.Nat.{not-suc-le-zero, le-of-suc-le-suc, eq-or-lt-of-le, mul-add, mul-one, mul-zero, mul-suc}
+use native.Mathlib.Nat.{mul-le-mul-left}
 use native.Mathlib.Omega.{arith}
 use lib.ListN.{length, getD, take, drop, length-append, length-drop}
 use lib.Seq.{getD-take, getD-drop, take-all, take-append-le, drop-append-le, drop-at}
@@ -17,12 +19,15 @@ use Rattle.wire.proofs.BelowLaws.{count-below}
 -- m elements that end before the second of two lists
 take-front : (m i : ℕ) (xs ys : List ℕ) → i + m ≤ length xs → take m (drop i (xs ++ ys)) ≡ take m (drop i xs)
 take-front m i xs ys h =
-    ap (take m) (drop-append-le i xs ys (omega arith)) ∙ take-append-le m (drop i xs) ys (omega (arith, length-drop i xs))
+    ap (take m) (drop-append-le i xs ys (omega arith)) ∙ take-append-le m (drop i xs) ys
+    (omega (arith, length-drop i xs))
 
 -- what stands at a place in a part that is known
-pub part-at : (m i at k : ℕ) (bs part : List ℕ) → take m (drop i bs) ≡ part → at ≡ i + k → k < m → getD bs at 0 ≡ getD part k 0
+pub part-at : (m i at k : ℕ) (bs part : List ℕ) → take m (drop i bs) ≡ part → at ≡ i + k → k < m → getD bs at 0
+    ≡ getD part k 0
 part-at m i at k bs part e w h =
-    ap (λ (n : ℕ). getD bs n 0) w ∙ sym (getD-drop i bs k 0) ∙ sym (getD-take m (drop i bs) k 0 h) ∙ ap (λ (l : List ℕ). getD l k 0) e
+    ap (λ (n : ℕ). getD bs n 0) w ∙ sym (getD-drop i bs k 0) ∙ sym (getD-take m (drop i bs) k 0 h)
+    ∙ ap (λ (l : List ℕ). getD l k 0) e
 
 kept-one : (t : Bool) (m : ℕ) (row : List ℕ) → length row ≡ m → length (pick t row []) ≡ m * pick t 1 0
 unfolding pick
@@ -43,7 +48,8 @@ module _ (p : ℕ → Bool) (f : ℕ → List ℕ) (m : ℕ) (len : (k : ℕ) �
 
   kept-last : (n : ℕ) → p n ≡ true → take m (drop (m * count p n) (rows kept n ++ kept n)) ≡ f n
   kept-last n e =
-      ap (take m) (drop-at (rows kept n) (kept n) (m * count p n) (kept-length n) ∙ sym (pick-yes (p n) (f n) (f n) [] e refl))
+      ap (take m) (drop-at (rows kept n) (kept n) (m * count p n) (kept-length n)
+      ∙ sym (pick-yes (p n) (f n) (f n) [] e refl))
       ∙ take-all m (f n) (omega (arith, len n))
 
   -- where a row that is kept stands
@@ -54,5 +60,6 @@ module _ (p : ℕ → Bool) (f : ℕ → List ℕ) (m : ℕ) (len : (k : ℕ) �
       ⊎-elim (λ (q : k ≡ n). rw q (kept-last n (ap p (sym q) ∙ e)))
       (λ (l : k < n).
       let up : m * suc (count p k) ≤ m * count p n = mul-le-mul-left m (count-below p k n l e) in
-      take-front m (m * count p k) (rows kept n) (kept n) (omega (arith, up, mul-suc m (count p k), kept-length n)) ∙ kept-at n k l e)
+      take-front m (m * count p k) (rows kept n) (kept n) (omega (arith, up, mul-suc m (count p k), kept-length n))
+      ∙ kept-at n k l e)
       (eq-or-lt-of-le (le-of-suc-le-suc h))

@@ -10,7 +10,8 @@ use Rattle.wire.proofs.ByteLaws.{bytes-length}
 use Rattle.wire.proofs.BufferLaws.{put-in, put-whole, length-put, then, then-row, rows-length}
 
 -- the next piece, where it fits
-pub then-in : (s r r′ p q : List ℕ) (at k : ℕ) → r ≡ put s at p → k ≡ at + length p → r′ ≡ putIn r k q → k + length q ≤ length s
+pub then-in : (s r r′ p q : List ℕ) (at k : ℕ) → r ≡ put s at p → k ≡ at + length p → r′ ≡ putIn r k q
+    → k + length q ≤ length s
     → r′ ≡ put s at (p ++ q)
 then-in s r r′ p q at k e w e′ h =
     let n : length r ≡ length s = ap length e ∙ length-put s at p (omega arith) in
@@ -18,7 +19,8 @@ then-in s r r′ p q at k e w e′ h =
 
 -- one more row of the same length, where it fits
 pub row-turn : (f : ℕ → List ℕ) (w : ℕ) → ((j : ℕ) → length (f j) ≡ w) → (s r r′ : List ℕ) (at k l : ℕ)
-    → r ≡ put s at (rows f l) → k ≡ at + w * l → r′ ≡ putIn r k (f l) → k + w ≤ length s → r′ ≡ put s at (rows f (l + 1))
+    → r ≡ put s at (rows f l) → k ≡ at + w * l → r′ ≡ putIn r k (f l) → k + w ≤ length s
+    → r′ ≡ put s at (rows f (l + 1))
 row-turn f w each s r r′ at k l e is e′ h =
     let long : length (rows f l) ≡ w * l = rows-length f w each l in
     let n : length r ≡ length s = ap length e ∙ length-put s at (rows f l) (omega arith) in
@@ -34,13 +36,15 @@ rows-all f w each s r k n e is l =
 pub byte-turn : (f : ℕ → ℕ) (s r r′ : List ℕ) (k v : ℕ) → r ≡ put s 0 (rows (λ j. f j ∷ []) k) → v ≡ f k
     → r′ ≡ putIn r k (v ∷ []) → k < length s → r′ ≡ put s 0 (rows (λ j. f j ∷ []) (k + 1))
 byte-turn f s r r′ k v e w e′ h =
-    row-turn (λ j. f j ∷ []) 1 (λ j. refl) s r r′ 0 k k e (omega arith) (e′ ∙ ap (λ (x : ℕ). putIn r k (x ∷ [])) w) (omega arith)
+    row-turn (λ j. f j ∷ []) 1 (λ j. refl) s r r′ 0 k k e (omega arith) (e′ ∙ ap (λ (x : ℕ). putIn r k (x ∷ [])) w)
+    (omega arith)
 
 pub bytes-all : (f : ℕ → ℕ) (s r : List ℕ) (k n : ℕ) → r ≡ put s 0 (rows (λ j. f j ∷ []) k) → k ≡ n → length s ≡ n
     → r ≡ rows (λ j. f j ∷ []) n
 bytes-all f s r k n e w l = rows-all (λ j. f j ∷ []) 1 (λ j. refl) s r k n e w (omega arith)
 
 -- ---- 16 bits a turn
-pub pair-turn : (f : ℕ → ℕ) (s r r′ : List ℕ) (at k l : ℕ) → r ≡ put s at (rows (λ j. bytes 2 (f j)) l) → k ≡ at + 2 * l
+pub pair-turn : (f : ℕ → ℕ) (s r r′ : List ℕ) (at k l : ℕ) → r ≡ put s at (rows (λ j. bytes 2 (f j)) l)
+    → k ≡ at + 2 * l
     → r′ ≡ putIn r k (bytes 2 (f l)) → k + 2 ≤ length s → r′ ≡ put s at (rows (λ j. bytes 2 (f j)) (l + 1))
 pair-turn f = row-turn (λ j. bytes 2 (f j)) 2 (λ j. bytes-length 2 (f j))

@@ -12,22 +12,35 @@ is-day-requires : tie.Need-is-day-requires
 is-day-requires c κs = search needs
 
 returns : tie.Need-returns
-returns c = sym (number-none (c .before .before .args .date) (told-no _ _ (c .before .is-day .ensures) (c .if1 .taken)))
+returns c = sym
+    (number-none (c .before .before .args .date) (told-no _ _ (c .before .is-day .ensures) (c .if1 .taken)))
 
 year-of-requires : tie.Need-year-of-requires
 year-of-requires c κs = search needs
 
 sub-days-in : tie.Need-sub-days-in
-sub-days-in c = omega (arith, real (c .before .before .before .args .date) (told-yes _ _ (c .before .before .is-day .ensures) (c .before .if1 .left)))
+sub-days-in c =
+    omega (
+      arith,
+      real (c .before .before .before .args .date) (told-yes _ _ (c .before .before .is-day .ensures)
+          (c .before .if1 .left)),
+    )
 
 days-in-requires : tie.Need-days-in-requires
-days-in-requires c κs = omega (arith, real (c .before .before .before .args .date) (told-yes _ _ (c .before .before .is-day .ensures) (c .before .if1 .left)))
+days-in-requires c κs =
+    omega (
+      arith,
+      real (c .before .before .before .args .date) (told-yes _ _ (c .before .before .is-day .ensures)
+          (c .before .if1 .left)),
+    )
 
 -- what is returned is the day number: the fact behind the sum's fit and the return
-is-number : (c : tie.After-days-in) → c .days-in .result + day (c .before .before .before .before .args .date) ≡ dayNumber (c .before .before .before .before .args .date)
+is-number : (c : tie.After-days-in) → c .days-in .result + day (c .before .before .before .before .args .date)
+    ≡ dayNumber (c .before .before .before .before .args .date)
 is-number c =
     let d = c .before .before .before .before .args .date in
-    ap (λ (n : ℕ). n + day d) (c .days-in .ensures ∙ ap (λ (y : ℕ). daysIn y (month d - 1)) (c .before .year-of .ensures))
+    ap (λ (n : ℕ). n + day d) (c .days-in .ensures ∙ ap (λ (y : ℕ). daysIn y (month d - 1))
+    (c .before .year-of .ensures))
     ∙ sym (number-of d (told-yes _ _ (c .before .before .before .is-day .ensures) (c .before .before .if1 .left)))
 
 add-result : tie.Need-add-result

@@ -1,6 +1,9 @@
 -- `demands::promised` meets its contract: every statement has its theorem. Assumes nothing.
 use Rattle.demands.proofs.Demand1.{always-answered, one-answer, number-named, values-named, refusal-keeps}
-use Rattle.demands.proofs.Demand2.{calls-ruled, cells-counted, never-changed, never-unsound, findings-listed, lowest-id, book-of-days, totals-counted, fresh-is-blank, blank-carries-nothing, sanctions-found, findings-found, logs-ruled, always-read, file-of-days, logs-found}
+use Rattle.demands.proofs.Demand2.{calls-ruled, cells-counted, never-changed, never-unsound, findings-listed}
+use Rattle.demands.proofs.Demand2.{lowest-id, book-of-days, totals-counted, fresh-is-blank}
+use Rattle.demands.proofs.Demand2.{blank-carries-nothing, sanctions-found, findings-found, logs-ruled}
+use Rattle.demands.proofs.Demand2.{always-read, file-of-days, logs-found}
 use Rattle.demands.proofs.Demand3.{nothing-lost, nothing-lost-in-logs}
 use Rattle.demands.proofs.Example.{why-three-or-five}
 use Rattle.demands.proofs.Starred.{starred-hold}

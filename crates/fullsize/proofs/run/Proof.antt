@@ -6,7 +6,8 @@ use Rattle.fullsize.proofs.run.Statement.{statement}
 use Rattle.fullsize.proofs.run.Tie as tie
 
 abbrev Inv-loop : tie.InvT-loop
-Inv-loop t c₀ n row₀ state₀ seed₀ counter₀ c row state seed counter = (counter ≤ n) × (length c ≡ length c₀) × (length row ≡ 20)
+Inv-loop t c₀ n row₀ state₀ seed₀ counter₀ c row state seed counter = (counter ≤ n) × (length c ≡ length c₀)
+    × (length row ≡ 20)
 
 abbrev μ-loop : tie.MeasureT-loop
 μ-loop t c₀ n row₀ state₀ seed₀ counter₀ c row state seed counter = n - counter

@@ -9,7 +9,8 @@ use Rattle.replay.proofs.replay.Tie as tie
 abbrev Inv-loop : tie.InvT-loop
 Inv-loop all counts₀ findings₀ book₀ tables₀ s₀ at₀ counts findings book tables s at =
     (at ≤ length all) × (length all ≤ 1000000) × Within s
-    × (length counts ≡ length counts₀) × (length findings ≡ length findings₀) × (length book ≡ length book₀) × (length tables ≡ length tables₀)
+    × (length counts ≡ length counts₀) × (length findings ≡ length findings₀) × (length book ≡ length book₀)
+    × (length tables ≡ length tables₀)
     × (length counts ≡ 20000) × (length findings ≡ 70000) × (length book ≡ 20000) × (length tables ≡ 8192)
 
 abbrev μ-loop : tie.MeasureT-loop

@@ -7,10 +7,12 @@ use Rattle.clerk.proofs.day.take_all.Tie as tie
 
 abbrev Inv-loop : tie.InvT-loop
 Inv-loop log size book₀ counts₀ findings₀ piece₀ state₀ counter₀ book counts findings piece state counter =
-    (counter ≤ 1000001) × (length book ≡ length book₀) × (length counts ≡ length counts₀) × (length findings ≡ length findings₀) × (length piece ≡ 65520)
+    (counter ≤ 1000001) × (length book ≡ length book₀) × (length counts ≡ length counts₀)
+    × (length findings ≡ length findings₀) × (length piece ≡ 65520)
 
 abbrev μ-loop : tie.MeasureT-loop
-μ-loop log size book₀ counts₀ findings₀ piece₀ state₀ counter₀ book counts findings piece state counter = 1000001 - counter
+μ-loop log size book₀ counts₀ findings₀ piece₀ state₀ counter₀ book counts findings piece state counter =
+    1000001 - counter
 
 loop-holds : tie.Need-loop-holds Inv-loop μ-loop
 loop-holds c = search needs

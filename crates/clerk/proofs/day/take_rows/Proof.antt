@@ -6,7 +6,8 @@ use Rattle.clerk.proofs.day.take_rows.Statement.{statement}
 use Rattle.clerk.proofs.day.take_rows.Tie as tie
 
 abbrev Inv-loop : tie.InvT-loop
-Inv-loop log rows size counts₀ state₀ at₀ counts state at = (1 ≤ size) × (at ≤ length rows) × (length counts ≡ length counts₀)
+Inv-loop log rows size counts₀ state₀ at₀ counts state at = (1 ≤ size) × (at ≤ length rows)
+    × (length counts ≡ length counts₀)
 
 abbrev μ-loop : tie.MeasureT-loop
 μ-loop log rows size counts₀ state₀ at₀ counts state at = length rows - at

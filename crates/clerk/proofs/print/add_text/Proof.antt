@@ -6,7 +6,8 @@ use Rattle.clerk.proofs.print.add_text.Statement.{statement}
 use Rattle.clerk.proofs.print.add_text.Tie as tie
 
 abbrev Inv-loop : tie.InvT-loop
-Inv-loop line₀ at text next₀ i₀ i-end line next i = (i ≤ length text) × (length line ≡ length line₀) × (next ≤ length line₀)
+Inv-loop line₀ at text next₀ i₀ i-end line next i = (i ≤ length text) × (length line ≡ length line₀)
+    × (next ≤ length line₀)
 
 abbrev μ-loop : tie.MeasureT-loop
 μ-loop line₀ at text next₀ i₀ i-end line next i = length text - i

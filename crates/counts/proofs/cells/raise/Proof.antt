@@ -19,7 +19,8 @@ returns c =
     (e, pick-no _ _ _ _ (ne-eqb _ 0 (λ z. c .if1 .taken (e ∙ z))) refl)
 
 -- no refusal
-none : (c : tie.Else1) → let a = c .before .before .before .before .args in planFault (a .kinds) (a .taken) (a .p) (a .c .now) ≡ 0
+none : (c : tie.Else1) → let a = c .before .before .before .before .args in planFault (a .kinds) (a .taken) (a .p)
+    (a .c .now) ≡ 0
 none c = sym (c .before .plan-fault .ensures) ∙ c .if1 .left
 
 raise-each-requires : tie.Need-raise-each-requires

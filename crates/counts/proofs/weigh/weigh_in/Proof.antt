@@ -6,7 +6,8 @@ use Rattle.daylog.specs.declared.record.Record.{Record}
 use Rattle.daylog.specs.Records.{recordGood}
 use Rattle.tables.specs.Tables.{Tables, tablesIn, hasContract, hasAccount}
 use Rattle.counts.specs.Counting.{fieldsFault}
-use Rattle.counts.proofs.WeighLaws.{Here, no-contract, a-contract, no-account, an-account, its-group, place-fits}
+use Rattle.counts.proofs.WeighLaws.{Here, no-contract, a-contract, no-account, an-account, its-group}
+use Rattle.counts.proofs.WeighLaws.{place-fits}
 use Rattle.counts.proofs.WeighLaws.{second-missing, second-there, second-none, refused-by, counts-by}
 use Rattle.counts.proofs.WeighLaws.{plan-is, plan-none}
 use borrow.Author.Needs.{needs}
@@ -108,7 +109,8 @@ returns-4 c =
     let a = s .args in
     let h = here (b .before .before .before) in
     let e = b .before .find-account .ensures .0 in
-    let one = its-group (a .text) (a .contracts .now) (a .accounts .now) (a .r .first) (s .pre .1) _ e (b .if2 .left) in
+    let one = its-group (a .text) (a .contracts .now) (a .accounts .now) (a .r .first) (s .pre .1) _ e
+    (b .if2 .left) in
     let other = c .before .before .if3 .taken in
     counts-by _ (r s) _ (second-none (t s) (r s) (fields-good b) (contract-there b) (first-there b) other)
     (c .plan-for .ensures ∙ plan-none (t s) (r s) _ _ _ (h .entry) (h .place) (c .before .get8 .ensures ∙ one) 0 other)
@@ -144,7 +146,8 @@ returns-6 c =
     let h = here (b .before .before .before) in
     let e = b .before .find-account .ensures .0 in
     let f = d .before .find-account2 .ensures .0 in
-    let one = its-group (a .text) (a .contracts .now) (a .accounts .now) (a .r .first) (s .pre .1) _ e (b .if2 .left) in
+    let one = its-group (a .text) (a .contracts .now) (a .accounts .now) (a .r .first) (s .pre .1) _ e
+    (b .if2 .left) in
     let some = d .if4 .left in
     let there = an-account (a .text) (a .contracts .now) (a .accounts .now) (a .r .second) (s .pre .1) _ f some in
     let two = its-group (a .text) (a .contracts .now) (a .accounts .now) (a .r .second) (s .pre .1) _ f some in

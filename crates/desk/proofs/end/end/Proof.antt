@@ -27,7 +27,8 @@ same-length c = search needs
 
 returns-2 : tie.Need-returns-2
 unfolding endFault
-returns-2 c = rw (c .before .before .before .before .state .given .1) (refused-first _ _ _ (c .before .lent-fault .ensures) (c .if1 .taken))
+returns-2 c = rw (c .before .before .before .before .state .given .1)
+    (refused-first _ _ _ (c .before .lent-fault .ensures) (c .if1 .taken))
 
 cast-kinds-of : tie.Need-cast-kinds-of
 cast-kinds-of c = search needs
@@ -46,15 +47,34 @@ part-places-start c = search needs
 
 part-places-end : tie.Need-part-places-end
 unfolding mostKinds
-part-places-end c = places-fit (c .before .before .before .before .before .before .before .before .state .given .0 .0 .head .rulebook) _ _ (c .before .kinds-of .ensures) (c .ladders-in .ensures)
+part-places-end c =
+    places-fit (c .before .before .before .before .before .before .before .before .state .given .0 .0 .head .rulebook)
+    _ _ (c .before .kinds-of .ensures) (c .ladders-in .ensures)
 
 end-with-requires : tie.Need-end-with-requires
 unfolding mostKinds
 end-with-requires c κs =
     let s = c .before .before .before .before .before .before .before .before .before .before .before .state .given in
-    let a = c .before .before .before .before .before .before .before .before .before .before .before .before .before .before .before .before .before .before .args in
-    let h = handed (s .0 .0) (a .log .now) (a .row .now) (a .book .now) _ (sym (c .before .before .before .before .before .before .before .before .lent-fault .ensures) ∙ c .before .before .before .before .before .before .before .if1 .left) in
-    (h .head, h .tables, h .counts-long, simp length-take (omega (arith, places-fit (s .0 .0 .head .rulebook) _ _ (c .before .before .before .before .kinds-of .ensures) (c .before .before .before .ladders-in .ensures), c .before .before .before .ladders-in .ensures, ap kindsIn (c .before .before .before .before .kinds-of .ensures))), book-long (s .0 .0) (a .log .now) (a .book .now) _ h)
+    let a = c .before .before .before .before .before .before .before .before .before .before .before .before .before
+    .before .before .before .before .before .args in
+    let h = handed (s .0 .0) (a .log .now) (a .row .now) (a .book .now) _
+    (sym (c .before .before .before .before .before .before .before .before .lent-fault .ensures)
+    ∙ c .before .before .before .before .before .before .before .if1 .left) in (
+      h .head,
+      h .tables,
+      h .counts-long,
+      simp length-take
+          (omega (
+            arith,
+            places-fit (s .0 .0 .head .rulebook) _ _ (c .before .before .before .before .kinds-of .ensures)
+                (c .before .before .before .ladders-in .ensures),
+            c .before .before .before .ladders-in .ensures,
+            ap kindsIn
+                (c .before .before .before .before .kinds-of .ensures),
+          )),
+      book-long (s .0 .0) (a .log .now)
+          (a .book .now) _ h,
+    )
 
 same-length-2 : tie.Need-same-length-2
 same-length-2 c = search needs
@@ -65,7 +85,12 @@ same-length-3 c = search needs
 returns-3 : tie.Need-returns-3
 unfolding endFault
 returns-3 c =
-    rw (c .before .before .before .before .before .before .before .before .before .before .before .before .before .before .before .before .before .state .given .1) (then-by _ _ (sym (c .before .before .before .before .before .before .before .before .before .before .before .before .before .before .lent-fault .ensures) ∙ c .before .before .before .before .before .before .before .before .before .before .before .before .before .if1 .left) (c .before .before .before .before .before .end-with .ensures))
+    rw (c .before .before .before .before .before .before .before .before .before .before .before .before .before
+    .before .before .before .before .state .given .1)
+    (then-by _ _ (sym
+    (c .before .before .before .before .before .before .before .before .before .before .before .before .before
+    .before .lent-fault .ensures) ∙ c .before .before .before .before .before .before .before .before .before
+    .before .before .before .before .if1 .left) (c .before .before .before .before .before .end-with .ensures))
 
 pub end-spec : {M : Type 1} → statement M
 end-spec =

@@ -10,7 +10,12 @@ use Rattle.desk.proofs.end.find_with.Statement.{statement}
 use Rattle.desk.proofs.end.find_with.Tie as tie
 
 judge-cells-requires : tie.Need-judge-cells-requires
-judge-cells-requires c κs = (c .before .before .before .before .pre .1, c .before .before .before .before .pre .2, c .before .before .before .before .pre .3)
+judge-cells-requires c κs = (
+  c .before .before .before .before .pre .1,
+  c .before .before .before .before .pre .2,
+  c .before .before .before
+      .before .pre .3,
+)
 
 same-length : tie.Need-same-length
 same-length c = search needs
@@ -20,7 +25,9 @@ unfolding dayFound countsFault
 returns c =
     let s = c .before .before .before .before .before .before .before .before in
     let a = s .args in
-    answer-first _ NotFound _ _ _ (c .before .before .before .judge-cells .ensures .0 ∙ ap (λ k. cellsFault k (a .day .taken) (a .counts .now)) (kinds-are (a .day .head) (a .log .now) (a .counts .now) (s .pre .0) (s .pre .1))) (c .if1 .taken)
+    answer-first _ NotFound _ _ _ (c .before .before .before .judge-cells .ensures .0
+    ∙ ap (λ k. cellsFault k (a .day .taken) (a .counts .now))
+    (kinds-are (a .day .head) (a .log .now) (a .counts .now) (s .pre .0) (s .pre .1))) (c .if1 .taken)
 
 cast-kinds-of : tie.Need-cast-kinds-of
 cast-kinds-of c = search needs
@@ -35,29 +42,56 @@ count-found-requires : tie.Need-count-found-requires
 count-found-requires c κs = search needs
 
 mul-if2 : tie.Need-mul-if2
-mul-if2 c = let low = found-low (c .before .before .before .kinds-of .result) _ _ _ (c .count-found .ensures) in omega arith
+mul-if2 c = let low = found-low (c .before .before .before .kinds-of .result) _ _ _ (c .count-found .ensures) in
+    omega arith
 
 same-length-2 : tie.Need-same-length-2
 same-length-2 c = search needs
 
 returns-2 : tie.Need-returns-2
 returns-2 c =
-    let s = c .before .before .before .before .before .before .before .before .before .before .before .before .before .before .before in
+    let s = c .before .before .before .before .before .before .before .before .before .before .before .before .before
+    .before .before in
     let a = s .args in
-    let z = sym (c .before .before .before .before .before .before .before .before .before .before .judge-cells .ensures .0) ∙ c .before .before .before .before .before .before .before .if1 .left in
-    found-short (a .day) (a .log .now) (a .counts .now) (s .pre .0) (s .pre .1) (λ j. omega (arith, c .before .before .before .before .before .before .before .before .before .before .before .before .before .before .shared-slice-known .given j)) z (a .room) _
-    (rw (c .before .before .before .before .kinds-of .ensures, c .before .before .before .before .before .before .before .before .before .before .judge-cells .ensures .1 (c .before .before .before .before .before .before .before .if1 .left)) at (c .before .count-found .ensures)) (c .if2 .taken)
+    let z = sym (c .before .before .before .before .before .before .before .before .before .before .judge-cells
+    .ensures .0) ∙ c .before .before .before .before .before .before .before .if1 .left in
+    found-short (a .day) (a .log .now) (a .counts .now) (s .pre .0) (s .pre .1)
+    (λ j. omega (
+      arith,
+      c .before .before .before .before .before .before .before .before .before .before .before
+          .before .before .before .shared-slice-known .given j,
+    )) z (a .room) _
+    (rw (
+      c .before .before .before .before .kinds-of .ensures,
+      c .before .before .before .before .before .before
+          .before .before .before .before .judge-cells .ensures .1
+          (c .before .before .before .before .before .before .before .if1 .left),
+    ) at (c .before .count-found .ensures))
+    (c .if2 .taken)
 
 same-length-3 : tie.Need-same-length-3
 same-length-3 c = search needs
 
 returns-3 : tie.Need-returns-3
 returns-3 c =
-    let s = c .before .before .before .before .before .before .before .before .before .before .before .before .before .before .before in
+    let s = c .before .before .before .before .before .before .before .before .before .before .before .before .before
+    .before .before in
     let a = s .args in
-    let z = sym (c .before .before .before .before .before .before .before .before .before .before .judge-cells .ensures .0) ∙ c .before .before .before .before .before .before .before .if1 .left in
-    found-done (a .day) (a .log .now) (a .counts .now) (s .pre .0) (s .pre .1) (λ j. omega (arith, c .before .before .before .before .before .before .before .before .before .before .before .before .before .before .shared-slice-known .given j)) z (a .room) _
-    (rw (c .before .before .before .before .kinds-of .ensures, c .before .before .before .before .before .before .before .before .before .before .judge-cells .ensures .1 (c .before .before .before .before .before .before .before .if1 .left)) at (c .before .count-found .ensures)) (c .if2 .left)
+    let z = sym (c .before .before .before .before .before .before .before .before .before .before .judge-cells
+    .ensures .0) ∙ c .before .before .before .before .before .before .before .if1 .left in
+    found-done (a .day) (a .log .now) (a .counts .now) (s .pre .0) (s .pre .1)
+    (λ j. omega (
+      arith,
+      c .before .before .before .before .before .before .before .before .before .before .before
+          .before .before .before .shared-slice-known .given j,
+    )) z (a .room) _
+    (rw (
+      c .before .before .before .before .kinds-of .ensures,
+      c .before .before .before .before .before .before
+          .before .before .before .before .judge-cells .ensures .1
+          (c .before .before .before .before .before .before .before .if1 .left),
+    ) at (c .before .count-found .ensures))
+    (c .if2 .left)
 
 pub find-with-spec : {M : Type 1} → statement M
 find-with-spec =

@@ -21,8 +21,13 @@ cells-good-requires c κs = rw (c .kinds-of .ensures) (c .before .before .before
 returns : tie.Need-returns
 unfolding cellsFault
 returns c =
-    let a = c .before .before .before .before .before .before .before .before .args in
-    (pick-yes _ _ _ _ (flip-yes _ (told-no _ _ (c .before .cells-good .ensures ∙ ap (λ k. cellsGood k (a .day .taken) (a .counts .now)) (c .before .before .kinds-of .ensures)) (c .if1 .taken))) refl, λ z. absurd (omega arith))
+    let a = c .before .before .before .before .before .before .before .before .args in (
+      pick-yes _ _ _ _
+          (flip-yes _ (told-no _ _ (c .before .cells-good .ensures
+          ∙ ap (λ k. cellsGood k (a .day .taken) (a .counts .now)) (c .before .before .kinds-of .ensures))
+          (c .if1 .taken))) refl,
+      λ z. absurd (omega arith),
+    )
 
 cast-middle : tie.Need-cast-middle
 cast-middle c = search needs
@@ -47,8 +52,13 @@ part-judge-day-end c = search needs
 
 judge-day-requires : tie.Need-judge-day-requires
 judge-day-requires c κs =
-    let s = c .before .before .before .before .before .before .before .before .before .before .before .before in
-    (lent-short (s .args .day .head) (s .args .log .now) (s .pre .0 .most-contracts), rw (c .before .before .before .before .before .before .kinds-of .ensures) (s .pre .1), rw (c .before .before .before .before .before .before .kinds-of .ensures) (s .pre .2))
+    let s = c .before .before .before .before .before .before .before .before .before .before .before .before in (
+      lent-short (s .args .day .head) (s .args .log .now) (s .pre .0 .most-contracts),
+      rw
+          (c .before .before .before .before .before .before .kinds-of .ensures) (s .pre .1),
+      rw
+          (c .before .before .before .before .before .before .kinds-of .ensures) (s .pre .2),
+    )
 
 same-length : tie.Need-same-length
 same-length c = search needs
@@ -56,9 +66,21 @@ same-length c = search needs
 returns-2 : tie.Need-returns-2
 unfolding cellsFault
 returns-2 c =
-    let a = c .before .before .before .before .before .before .before .before .before .before .before .before .before .before .before .args in (
-      pick-no _ _ _ _ (flip-no _ (told-yes _ _ (c .before .before .before .before .before .before .before .before .cells-good .ensures ∙ ap (λ k. cellsGood k (a .day .taken) (a .counts .now)) (c .before .before .before .before .before .before .before .before .before .kinds-of .ensures)) (c .before .before .before .before .before .before .before .if1 .left))) refl,
-      λ z. rw (c .before .before .before .before .before .text-of .ensures, c .before .before .before .before .before .before .before .before .before .kinds-of .ensures, part-of (a .log .now) 16 (8 * a .day .head .contracts)) at (c .before .before .judge-day .ensures),
+    let a = c .before .before .before .before .before .before .before .before .before .before .before .before .before
+    .before .before .args in (
+      pick-no _ _ _ _
+          (flip-no _ (told-yes _ _
+          (c .before .before .before .before .before .before .before .before .cells-good .ensures
+          ∙ ap (λ k. cellsGood k (a .day .taken) (a .counts .now))
+          (c .before .before .before .before .before .before .before .before .before .kinds-of .ensures))
+          (c .before .before .before .before .before .before .before .if1 .left))) refl,
+      λ z. rw (
+        c .before .before .before .before .before .text-of .ensures,
+        c .before .before .before .before .before
+            .before .before .before .before .kinds-of .ensures,
+        part-of (a .log .now) 16 (8 * a .day .head .contracts),
+      )
+          at (c .before .before .judge-day .ensures),
     )
 
 pub judge-cells-spec : {M : Type 1} → statement M

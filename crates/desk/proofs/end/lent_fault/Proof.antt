@@ -17,7 +17,8 @@ row-fault-requires c κs = search needs
 
 returns-2 : tie.Need-returns-2
 unfolding lentFault
-returns-2 c = or-else-by _ _ _ (sym (c .before .before .before .call-fault .ensures) ∙ c .before .before .if1 .left) (or-first-by _ _ _ (c .before .row-fault .ensures) (c .if2 .taken))
+returns-2 c = or-else-by _ _ _ (sym (c .before .before .before .call-fault .ensures) ∙ c .before .before .if1 .left)
+    (or-first-by _ _ _ (c .before .row-fault .ensures) (c .if2 .taken))
 
 book-fault-requires : tie.Need-book-fault-requires
 book-fault-requires c κs = search needs
@@ -25,8 +26,10 @@ book-fault-requires c κs = search needs
 returns-3 : tie.Need-returns-3
 unfolding lentFault
 returns-3 c =
-    or-else-by _ _ _ (sym (c .before .before .before .before .before .call-fault .ensures) ∙ c .before .before .before .before .if1 .left)
-    (or-else-by _ _ _ (sym (c .before .before .before .row-fault .ensures) ∙ c .before .before .if2 .left) (c .book-fault .ensures))
+    or-else-by _ _ _ (sym (c .before .before .before .before .before .call-fault .ensures)
+    ∙ c .before .before .before .before .if1 .left)
+    (or-else-by _ _ _ (sym (c .before .before .before .row-fault .ensures) ∙ c .before .before .if2 .left)
+    (c .book-fault .ensures))
 
 pub lent-fault-spec : {M : Type 1} → statement M
 lent-fault-spec =

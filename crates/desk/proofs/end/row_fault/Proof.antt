@@ -21,7 +21,8 @@ returns-2 : tie.Need-returns-2
 unfolding rowFault
 returns-2 c =
     let a = c .before .before .before .before .before .before .args in
-    let r = ne-eqb (le 4 (a .row .now) 4) (a .day .taken) (λ q. c .if2 .taken (c .before .before .get32 .ensures ∙ q)) in
+    let r = ne-eqb (le 4 (a .row .now) 4) (a .day .taken)
+    (λ q. c .if2 .taken (c .before .before .get32 .ensures ∙ q)) in
     search chain depth 12
 
 returns-3 : tie.Need-returns-3

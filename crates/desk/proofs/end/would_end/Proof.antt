@@ -25,7 +25,8 @@ lent-fault-requires c κs = search needs
 
 returns-2 : tie.Need-returns-2
 unfolding endFault dayFound
-returns-2 c = rw (c .before .before .before .state .given .1) (answer-first _ NotFound _ _ _ (c .before .lent-fault .ensures) (c .if1 .taken))
+returns-2 c = rw (c .before .before .before .state .given .1)
+    (answer-first _ NotFound _ _ _ (c .before .lent-fault .ensures) (c .if1 .taken))
 
 cast-kinds-of : tie.Need-cast-kinds-of
 cast-kinds-of c = search needs
@@ -44,20 +45,40 @@ part-places-start c = search needs
 
 part-places-end : tie.Need-part-places-end
 unfolding mostKinds
-part-places-end c = places-fit (c .before .before .before .before .before .before .before .state .given .0 .0 .head .rulebook) _ _ (c .before .kinds-of .ensures) (c .ladders-in .ensures)
+part-places-end c =
+    places-fit (c .before .before .before .before .before .before .before .state .given .0 .0 .head .rulebook) _ _
+    (c .before .kinds-of .ensures) (c .ladders-in .ensures)
 
 find-with-requires : tie.Need-find-with-requires
 unfolding mostKinds
 find-with-requires c κs =
     let s = c .before .before .before .before .before .before .before .before .state .given in
-    let a = c .before .before .before .before .before .before .before .before .before .before .before .before .before .before .args in
-    let h = handed (s .0 .0) (a .log .now) (a .row .now) (a .book .now) _ (sym (c .before .before .before .before .before .before .lent-fault .ensures) ∙ c .before .before .before .before .before .if1 .left) in
-    (h .head, h .tables, h .counts-long, simp length-take (omega (arith, places-fit (s .0 .0 .head .rulebook) _ _ (c .before .before .kinds-of .ensures) (c .before .ladders-in .ensures), c .before .ladders-in .ensures, ap kindsIn (c .before .before .kinds-of .ensures))))
+    let a = c .before .before .before .before .before .before .before .before .before .before .before .before .before
+    .before .args in
+    let h = handed (s .0 .0) (a .log .now) (a .row .now) (a .book .now) _
+    (sym (c .before .before .before .before .before .before .lent-fault .ensures)
+    ∙ c .before .before .before .before .before .if1 .left) in (
+      h .head,
+      h .tables,
+      h .counts-long,
+      simp length-take
+          (omega (
+            arith,
+            places-fit (s .0 .0 .head .rulebook) _ _ (c .before .before .kinds-of .ensures)
+                (c .before .ladders-in .ensures),
+            c .before .ladders-in .ensures,
+            ap kindsIn
+                (c .before .before .kinds-of .ensures),
+          )),
+    )
 
 returns-3 : tie.Need-returns-3
 unfolding endFault dayFound
 returns-3 c =
-    rw (c .before .before .before .before .before .before .before .before .before .before .state .given .1) (answer-then _ NotFound _ _ (sym (c .before .before .before .before .before .before .before .before .lent-fault .ensures) ∙ c .before .before .before .before .before .before .before .if1 .left) (c .before .find-with .ensures))
+    rw (c .before .before .before .before .before .before .before .before .before .before .state .given .1)
+    (answer-then _ NotFound _ _
+    (sym (c .before .before .before .before .before .before .before .before .lent-fault .ensures)
+    ∙ c .before .before .before .before .before .before .before .if1 .left) (c .before .find-with .ensures))
 
 pub would-end-spec : {M : Type 1} → statement M
 would-end-spec =

@@ -39,8 +39,11 @@ loop-less c = search needs
 loop-again : tie.Need-loop-again Inv-loop μ-loop
 loop-again c =
     let a = c .before .before .before .before .before .args in
-    let l = c .before .before .loop in
-    (search needs, ap₂ (λ x y. x && y) (l .inv .1) refl ∙ every-next (λ j. leb (getD (a .counts .now) j 0) (a .taken)) (l .i))
+    let l = c .before .before .loop in (
+      search needs,
+      ap₂ (λ x y. x && y) (l .inv .1) refl ∙ every-next (λ j. leb (getD (a .counts .now) j 0) (a .taken))
+          (l .i),
+    )
 
 returns : tie.Need-returns Inv-loop μ-loop
 unfolding cellsGood

@@ -14,7 +14,8 @@ use Rattle.desk.proofs.ladders.fill_families.Statement.{statement}
 use Rattle.desk.proofs.ladders.fill_families.Tie as tie
 
 abbrev Inv-loop : tie.InvT-loop
-Inv-loop text contracts fams₀ k₀ k-end fams k = (k ≤ entries contracts) × (length fams ≡ length fams₀) × (fams ≡ put fams₀ 0 (rows (λ j. familyIn text contracts j ∷ []) k))
+Inv-loop text contracts fams₀ k₀ k-end fams k = (k ≤ entries contracts) × (length fams ≡ length fams₀)
+    × (fams ≡ put fams₀ 0 (rows (λ j. familyIn text contracts j ∷ []) k))
 
 abbrev μ-loop : tie.MeasureT-loop
 μ-loop text contracts fams₀ k₀ k-end fams k = entries contracts - k
@@ -44,8 +45,10 @@ loop-again c =
       search needs,
       c .before .before .put8 .kept .0 ∙ l .inv .1,
       byte-turn (familyIn (a .text) (a .contracts .now)) (a .fams .now) (l .fams) _ (l .k) _ (l .inv .2)
-          (c .before .before .before .family-of .ensures ∙ ap (λ e. family (a .text) (e .sort) (e .product)) (c .before .before .before .before .before .contract-at .ensures))
-          (c .before .before .put8 .ensures) (omega (arith, c .before .before .before .before .before .before .before .before .before .before .pre)),
+          (c .before .before .before .family-of .ensures ∙ ap (λ e. family (a .text) (e .sort) (e .product))
+          (c .before .before .before .before .before .contract-at .ensures))
+          (c .before .before .put8 .ensures)
+          (omega (arith, c .before .before .before .before .before .before .before .before .before .before .pre)),
     )
 
 same-length : tie.Need-same-length Inv-loop μ-loop
@@ -56,7 +59,8 @@ unfolding familiesIn
 returns c =
     let a = c .before .before .before .before .args in
     let l = c .before .loop in
-    bytes-all (familyIn (a .text) (a .contracts .now)) (a .fams .now) (l .fams) (l .k) (entries (a .contracts .now)) (l .inv .2) (omega arith) (c .before .before .before .before .pre)
+    bytes-all (familyIn (a .text) (a .contracts .now)) (a .fams .now) (l .fams) (l .k) (entries (a .contracts .now))
+    (l .inv .2) (omega arith) (c .before .before .before .before .pre)
 
 pub fill-families-spec : {M : Type 1} → statement M
 fill-families-spec =

@@ -14,7 +14,8 @@ use Rattle.desk.proofs.ladders.fill_places.Statement.{statement}
 use Rattle.desk.proofs.ladders.fill_places.Tie as tie
 
 abbrev Inv-loop : tie.InvT-loop
-Inv-loop text kinds fams counts places₀ l₀ l-end places l = (l ≤ l-end) × (length places ≡ length places₀) × (places ≡ put places₀ 0 (rows (λ j. placeAt text kinds fams counts j ∷ []) l))
+Inv-loop text kinds fams counts places₀ l₀ l-end places l = (l ≤ l-end) × (length places ≡ length places₀)
+    × (places ≡ put places₀ 0 (rows (λ j. placeAt text kinds fams counts j ∷ []) l))
 
 abbrev μ-loop : tie.MeasureT-loop
 μ-loop text kinds fams counts places₀ l₀ l-end places l = l-end - l
@@ -26,16 +27,32 @@ loop-holds : tie.Need-loop-holds Inv-loop μ-loop
 loop-holds c = (search needs, refl, no-rows _ _ _)
 
 place-at-requires : tie.Need-place-at-requires Inv-loop μ-loop
-place-at-requires c κs = (c .before .before .before .before .before .before .pre .0, c .before .before .before .before .before .before .pre .1, omega (arith, c .before .before .ladders-in .ensures))
+place-at-requires c κs = (
+  c .before .before .before .before .before .before .pre .0,
+  c .before .before .before .before .before .before .pre
+      .1,
+  omega (arith, c .before .before .ladders-in .ensures),
+)
 
 cast-put8 : tie.Need-cast-put8 Inv-loop μ-loop
-cast-put8 c = omega (arith, c .before .place-at .ensures .1, c .before .before .before .before .before .before .before .before .pre .0)
+cast-put8 c =
+    omega (
+      arith,
+      c .before .place-at .ensures .1,
+      c .before .before .before .before .before .before .before .before
+          .pre .0,
+    )
 
 put8-requires : tie.Need-put8-requires Inv-loop μ-loop
 put8-requires c κs = search needs
 
 add-l : tie.Need-add-l Inv-loop μ-loop
-add-l c = omega (arith, few (c .before .before .before .before .before .before .before .before .before .before .before .args .kinds), c .before .before .before .before .before .before .before .ladders-in .ensures)
+add-l c = omega (
+  arith,
+  few (c .before .before .before .before .before .before .before .before .before .before .before .args
+      .kinds),
+  c .before .before .before .before .before .before .before .ladders-in .ensures,
+)
 
 loop-less : tie.Need-loop-less Inv-loop μ-loop
 loop-less c = search needs
@@ -46,8 +63,15 @@ loop-again c =
     let l = c .before .before .before .before .before .before .loop in (
       search needs,
       c .before .before .put8 .kept .0 ∙ l .inv .1,
-      byte-turn (placeAt (a .text) (a .kinds) (a .fams .now) (a .counts .now)) (a .places .now) (l .places) _ (l .l) _ (l .inv .2)
-          (c .before .before .before .before .place-at .ensures .0) (c .before .before .put8 .ensures) (omega (arith, c .before .before .before .before .before .before .before .before .before .before .before .pre .2, c .before .before .before .before .before .before .before .ladders-in .ensures)),
+      byte-turn (placeAt (a .text) (a .kinds) (a .fams .now) (a .counts .now)) (a .places .now) (l .places) _ (l .l) _
+          (l .inv .2)
+          (c .before .before .before .before .place-at .ensures .0) (c .before .before .put8 .ensures)
+          (omega (
+            arith,
+            c .before .before .before .before .before .before .before .before .before .before .before
+                .pre .2,
+            c .before .before .before .before .before .before .before .ladders-in .ensures,
+          )),
     )
 
 same-length : tie.Need-same-length Inv-loop μ-loop
@@ -58,7 +82,8 @@ unfolding placesIn
 returns c =
     let a = c .before .before .before .before .before .before .args in
     let l = c .before .loop in
-    bytes-all (placeAt (a .text) (a .kinds) (a .fams .now) (a .counts .now)) (a .places .now) (l .places) (l .l) (ladders (a .kinds)) (l .inv .2)
+    bytes-all (placeAt (a .text) (a .kinds) (a .fams .now) (a .counts .now)) (a .places .now) (l .places) (l .l)
+    (ladders (a .kinds)) (l .inv .2)
     (omega (arith, c .before .before .ladders-in .ensures)) (c .before .before .before .before .before .before .pre .2)
 
 pub fill-places-spec : {M : Type 1} → statement M

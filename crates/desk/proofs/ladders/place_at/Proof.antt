@@ -13,7 +13,8 @@ use Rattle.desk.proofs.ladders.place_at.Statement.{statement}
 use Rattle.desk.proofs.ladders.place_at.Tie as tie
 
 abbrev Inv-loop : tie.InvT-loop
-Inv-loop fams counts ladder number family from c₀ c-end c = (c ≤ length fams) × ((j : ℕ) → j < c → testedAt fams counts family from number j ≡ false)
+Inv-loop fams counts ladder number family from c₀ c-end c = (c ≤ length fams)
+    × ((j : ℕ) → j < c → testedAt fams counts family from number j ≡ false)
 
 abbrev μ-loop : tie.MeasureT-loop
 μ-loop fams counts ladder number family from c₀ c-end c = length fams - c
@@ -52,9 +53,11 @@ returns : tie.Need-returns Inv-loop μ-loop
 returns c =
     let a = c .before .before .before .before .before .before .before .before .before .before .args in
     let l = c .before .before .before .before .before .loop in
-    let e = c .before .before .before .before .before .before .enough-of .ensures ∙ ap (enough (a .text)) (c .before .before .before .before .before .before .before .kind-at .ensures) in (
+    let e = c .before .before .before .before .before .before .enough-of .ensures ∙ ap (enough (a .text))
+    (c .before .before .before .before .before .before .before .kind-at .ensures) in (
       place-here (a .text) (a .kinds) (a .fams .now) (a .counts .now) (a .ladder) _ e (l .c) (omega arith) (l .inv .1)
-          (ap (λ b. eqb (getD (a .fams .now) (l .c) 0) (a .ladder % 16) && b) (sym (c .before .is-reached .ensures)) ∙ c .if1 .taken),
+          (ap (λ b. eqb (getD (a .fams .now) (l .c) 0) (a .ladder % 16) && b) (sym (c .before .is-reached .ensures))
+          ∙ c .if1 .taken),
       omega arith,
     )
 
@@ -67,15 +70,22 @@ loop-less c = search needs
 loop-again : tie.Need-loop-again Inv-loop μ-loop
 loop-again c =
     let a = c .before .before .before .before .before .before .before .before .before .before .args in
-    let l = c .before .before .before .before .before .loop in
-    (omega arith, below-more _ (l .c) (l .inv .1) (ap (λ b. eqb (getD (a .fams .now) (l .c) 0) (a .ladder % 16) && b) (sym (c .before .is-reached .ensures)) ∙ c .if1 .left))
+    let l = c .before .before .before .before .before .loop in (
+      omega arith,
+      below-more _ (l .c) (l .inv .1) (ap (λ b. eqb (getD (a .fams .now) (l .c) 0) (a .ladder % 16) && b)
+          (sym (c .before .is-reached .ensures)) ∙ c .if1 .left),
+    )
 
 returns-2 : tie.Need-returns-2 Inv-loop μ-loop
 returns-2 c =
     let a = c .before .before .before .before .before .before .args in
     let l = c .before .loop in
-    let e = c .before .before .enough-of .ensures ∙ ap (enough (a .text)) (c .before .before .before .kind-at .ensures) in
-    (place-nowhere (a .text) (a .kinds) (a .fams .now) (a .counts .now) (a .ladder) _ e (λ j h. l .inv .1 j (omega arith)), omega arith)
+    let e = c .before .before .enough-of .ensures ∙ ap (enough (a .text))
+    (c .before .before .before .kind-at .ensures) in (
+      place-nowhere (a .text) (a .kinds) (a .fams .now) (a .counts .now) (a .ladder) _ e
+          (λ j h. l .inv .1 j (omega arith)),
+      omega arith,
+    )
 
 pub place-at-spec : {M : Type 1} → statement M
 place-at-spec =

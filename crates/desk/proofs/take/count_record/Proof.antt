@@ -27,7 +27,11 @@ returns c =
     })
 
 add-t11 : tie.Need-add-t11
-add-t11 c = omega (arith, plan-fits _ _ _ _ (sym (c .before .before .before .before .raise .ensures .0) ∙ c .before .if1 .left) .0)
+add-t11 c = omega (
+  arith,
+  plan-fits _ _ _ _ (sym (c .before .before .before .before .raise .ensures .0)
+      ∙ c .before .if1 .left) .0,
+)
 
 same-length-2 : tie.Need-same-length-2
 same-length-2 c = search needs

@@ -15,7 +15,8 @@ use Rattle.desk.proofs.verdicts.fill_ids.Statement.{statement}
 use Rattle.desk.proofs.verdicts.fill_ids.Tie as tie
 
 abbrev Inv-loop : tie.InvT-loop
-Inv-loop contracts ids₀ k₀ k-end ids k = (k ≤ entries contracts) × (length ids ≡ length ids₀) × (ids ≡ put ids₀ 0 (rows (λ j. bytes 2 (contractIn contracts j .id)) k))
+Inv-loop contracts ids₀ k₀ k-end ids k = (k ≤ entries contracts) × (length ids ≡ length ids₀)
+    × (ids ≡ put ids₀ 0 (rows (λ j. bytes 2 (contractIn contracts j .id)) k))
 
 abbrev μ-loop : tie.MeasureT-loop
 μ-loop contracts ids₀ k₀ k-end ids k = entries contracts - k
@@ -44,8 +45,10 @@ loop-again c =
     let l = c .before .before .before .before .before .before .loop in (
       search needs,
       c .before .before .put16 .kept .0 ∙ l .inv .1,
-      pair-turn (λ j. contractIn (a .contracts .now) j .id) (a .ids .now) (l .ids) _ 0 (2 * l .k) (l .k) (l .inv .2) (omega arith)
-          (c .before .before .put16 .ensures ∙ ap (λ e. putIn (l .ids) (2 * l .k) (bytes 2 (e .id))) (c .before .before .before .before .contract-at .ensures))
+      pair-turn (λ j. contractIn (a .contracts .now) j .id) (a .ids .now) (l .ids) _ 0 (2 * l .k) (l .k) (l .inv .2)
+          (omega arith)
+          (c .before .before .put16 .ensures ∙ ap (λ e. putIn (l .ids) (2 * l .k) (bytes 2 (e .id)))
+          (c .before .before .before .before .contract-at .ensures))
           (omega (arith, c .before .before .before .before .before .before .before .before .before .pre)),
     )
 
@@ -57,7 +60,8 @@ unfolding idsIn
 returns c =
     let a = c .before .before .before .before .args in
     let l = c .before .loop in
-    rows-all (λ j. bytes 2 (contractIn (a .contracts .now) j .id)) 2 (λ j. bytes-length 2 _) (a .ids .now) (l .ids) (l .k) (entries (a .contracts .now)) (l .inv .2) (omega arith) (c .before .before .before .before .pre)
+    rows-all (λ j. bytes 2 (contractIn (a .contracts .now) j .id)) 2 (λ j. bytes-length 2 _) (a .ids .now) (l .ids)
+    (l .k) (entries (a .contracts .now)) (l .inv .2) (omega arith) (c .before .before .before .before .pre)
 
 pub fill-ids-spec : {M : Type 1} → statement M
 fill-ids-spec =

@@ -56,7 +56,9 @@ loop-again c =
       search needs,
       c .before .before .put8 .kept .0 ∙ l .inv .1,
       byte-turn (byteFor (a .accounts .now)) (a .members .now) (l .members) _ (l .g) _ (l .inv .2)
-          (c .before .before .before .flag .ensures ∙ ap (λ b. pick b 1 0) (c .before .before .before .before .before .has-member .ensures)) (c .before .before .put8 .ensures) (omega (arith, c .before .before .before .before .before .before .before .before .before .before .pre)),
+          (c .before .before .before .flag .ensures ∙ ap (λ b. pick b 1 0)
+          (c .before .before .before .before .before .has-member .ensures)) (c .before .before .put8 .ensures)
+          (omega (arith, c .before .before .before .before .before .before .before .before .before .before .pre)),
     )
 
 same-length : tie.Need-same-length Inv-loop μ-loop
@@ -67,7 +69,10 @@ unfolding membersIn
 returns c =
     let a = c .before .before .before .before .args in
     let l = c .before .loop in
-    bytes-all (byteFor (a .accounts .now)) (a .members .now) (l .members) (l .g) 128 (l .inv .2) (omega arith) (c .before .before .before .before .pre)
+    bytes-all (byteFor (a .accounts .now)) (a .members .now) (l .members) (l .g) 128 (l .inv .2) (omega arith)
+    (c .before .before .before .before .pre)
 
 pub fill-members-spec : {M : Type 1} → statement M
-fill-members-spec = tie.close (tie.spec Inv-loop μ-loop loop-holds add-has-member cast-has-member has-member-requires flag-requires put8-requires add-g loop-less loop-again same-length returns)
+fill-members-spec =
+    tie.close (tie.spec Inv-loop μ-loop loop-holds add-has-member cast-has-member has-member-requires flag-requires
+    put8-requires add-g loop-less loop-again same-length returns)

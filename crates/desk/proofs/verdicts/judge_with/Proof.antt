@@ -18,8 +18,10 @@ same-length-2 c = search needs
 
 returns : tie.Need-returns
 returns c =
-    let a = c .before .before .before .before .before .before .before .before .before .before .before .before .before .args in
-    c .before .before .fill-places .ensures ∙ ap (λ f. placesIn (a .text) (a .kinds) f (a .counts .now)) (c .before .before .before .before .before .before .before .fill-families .ensures)
+    let a = c .before .before .before .before .before .before .before .before .before .before .before .before .before
+    .args in
+    c .before .before .fill-places .ensures ∙ ap (λ f. placesIn (a .text) (a .kinds) f (a .counts .now))
+    (c .before .before .before .before .before .before .before .fill-families .ensures)
 
 pub judge-with-spec : {M : Type 1} → statement M
 judge-with-spec =

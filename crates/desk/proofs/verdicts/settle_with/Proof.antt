@@ -30,7 +30,15 @@ same-length-4 : tie.Need-same-length-4
 same-length-4 c = search needs
 
 returns : tie.Need-returns
-returns c = rw (c .before .before .before .before .before .before .before .before .before .day-shape .ensures, c .before .before .before .before .before .before .before .before .before .before .before .before .before .before .before .before .before .fill-ids .ensures, c .before .before .before .before .before .before .before .before .before .before .before .before .before .fill-members .ensures) at (c .before .before .before .before .settle .ensures)
+returns c = rw (
+  c .before .before .before .before .before .before .before .before .before .day-shape .ensures,
+  c
+      .before .before .before .before .before .before .before .before .before .before .before .before .before .before
+      .before .before .before .fill-ids .ensures,
+  c .before .before .before .before .before .before .before .before
+      .before .before .before .before .before .fill-members .ensures,
+) at
+    (c .before .before .before .before .settle .ensures)
 
 pub settle-with-spec : {M : Type 1} → statement M
 settle-with-spec =

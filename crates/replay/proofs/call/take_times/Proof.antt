@@ -6,7 +6,8 @@ use Rattle.replay.proofs.call.take_times.Statement.{statement}
 use Rattle.replay.proofs.call.take_times.Tie as tie
 
 abbrev Inv-loop : tie.InvT-loop
-Inv-loop tables row counts₀ times now₀ counter₀ counts now counter = (counter ≤ times) × (length counts ≡ length counts₀)
+Inv-loop tables row counts₀ times now₀ counter₀ counts now counter = (counter ≤ times)
+    × (length counts ≡ length counts₀)
 
 abbrev μ-loop : tie.MeasureT-loop
 μ-loop tables row counts₀ times now₀ counter₀ counts now counter = times - counter

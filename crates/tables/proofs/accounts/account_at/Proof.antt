@@ -29,7 +29,8 @@ account-from-requires c κs = search needs
 returns : tie.Need-returns
 returns c =
     let s = c .before .before .before .before .args .part .now in
-    let small : (i : ℕ) → getD s i 0 < 256 = λ i. omega (arith, c .before .before .before .shared-slice-known .given i) in
+    let small : (i : ℕ) → getD s i 0 < 256 =
+    λ i. omega (arith, c .before .before .before .shared-slice-known .given i) in
     c .account-from .ensures ∙ ap₂ accountFrom (c .before .before .word .ensures) (c .before .word2 .ensures)
     ∙ account-words s small (c .before .before .before .before .args .k)
 

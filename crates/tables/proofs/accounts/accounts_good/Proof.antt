@@ -12,7 +12,8 @@ use Rattle.tables.proofs.accounts.accounts_good.Statement.{statement}
 use Rattle.tables.proofs.accounts.accounts_good.Tie as tie
 
 abbrev Inv-loop : tie.InvT-loop
-Inv-loop part good₀ before₀ k₀ k-end good before k = (k ≤ entries part) × (before ≡ numberBefore part k) × (good ≡ every (accountGoodAt part) k)
+Inv-loop part good₀ before₀ k₀ k-end good before k = (k ≤ entries part) × (before ≡ numberBefore part k)
+    × (good ≡ every (accountGoodAt part) k)
 
 abbrev μ-loop : tie.MeasureT-loop
 μ-loop part good₀ before₀ k₀ k-end good before k = entries part - k
@@ -40,7 +41,8 @@ loop-again c =
     let l = c .before .before .before .loop in (
       omega arith,
       ap (λ e. e .number) (c .before .account-at .ensures) ∙ number-before s (l .k),
-      ap₂ (λ x y. x && y) (l .inv .2) (c .account-good .ensures ∙ ap₂ (accountGood) (l .inv .1) (c .before .account-at .ensures)) ∙ every-next (accountGoodAt s) (l .k),
+      ap₂ (λ x y. x && y) (l .inv .2) (c .account-good .ensures ∙ ap₂ (accountGood) (l .inv .1)
+          (c .before .account-at .ensures)) ∙ every-next (accountGoodAt s) (l .k),
     )
 
 returns : tie.Need-returns Inv-loop μ-loop

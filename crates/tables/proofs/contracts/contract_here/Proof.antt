@@ -29,7 +29,8 @@ contract-from-requires c κs = search needs
 returns : tie.Need-returns
 returns c =
     let s = c .before .before .before .before .args .part .now in
-    let small : (i : ℕ) → getD s i 0 < 256 = λ i. omega (arith, c .before .before .before .shared-slice-known .given i) in
+    let small : (i : ℕ) → getD s i 0 < 256 =
+    λ i. omega (arith, c .before .before .before .shared-slice-known .given i) in
     c .contract-from .ensures ∙ ap₂ contractFrom (c .before .before .word .ensures) (c .before .word2 .ensures)
     ∙ contract-words s small (c .before .before .before .before .args .k)
 

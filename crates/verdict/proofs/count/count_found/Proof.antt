@@ -46,7 +46,8 @@ loop-again c =
     let l = c .before .before .before .loop in (
       omega arith,
       omega arith,
-      ap₂ (λ x y. x + y) (l .inv .2) (c .one-if .ensures .0 ∙ ap (λ p. pick (ltb p (a .contracts)) 1 0) (c .before .place-in .ensures))
+      ap₂ (λ x y. x + y) (l .inv .2) (c .one-if .ensures .0 ∙ ap (λ p. pick (ltb p (a .contracts)) 1 0)
+          (c .before .place-in .ensures))
           ∙ sym (count-more (hitAt (a .places .now) (a .contracts)) (l .l)),
     )
 

@@ -17,7 +17,8 @@ use Rattle.verdict.proofs.findings.list_all.Tie as tie
 abbrev Inv-loop : tie.InvT-loop
 Inv-loop out₀ shape rulebook date places ids members book n₀ l₀ l-end out n l =
     let v = verdictIn shape rulebook places ids members in
-    (l ≤ l-end) × (length out ≡ length out₀) × (n ≡ count (offends v) l) × (out ≡ put out₀ 0 (rows (foundAt v date book) l))
+    (l ≤ l-end) × (length out ≡ length out₀) × (n ≡ count (offends v) l)
+    × (out ≡ put out₀ 0 (rows (foundAt v date book) l))
 
 abbrev μ-loop : tie.MeasureT-loop
 μ-loop out₀ shape rulebook date places ids members book n₀ l₀ l-end out n l = l-end - l
@@ -32,11 +33,22 @@ list-one-requires : tie.Need-list-one-requires Inv-loop μ-loop
 unfolding foundCount verdictIn
 list-one-requires c κs =
     let e = c .before .before .before .ladders-in .ensures in
-    let h : c .before .before .loop .l < ladders (c .before .before .before .before .before .before .before .before .before .args .shape .kinds) = omega arith in
-    (h, count-room _ _ _ _ _ _ (c .before .before .loop .inv .2) h (c .before .before .before .before .before .before .before .before .before .pre) (c .before .before .loop .inv .1))
+    let h : c .before .before .loop .l < ladders
+    (c .before .before .before .before .before .before .before .before .before .args .shape .kinds) =
+    omega arith in (
+      h,
+      count-room _ _ _ _ _ _ (c .before .before .loop .inv .2) h
+          (c .before .before .before .before .before .before .before .before .before .pre)
+          (c .before .before .loop .inv .1),
+    )
 
 add-l : tie.Need-add-l Inv-loop μ-loop
-add-l c = omega (arith, few (c .before .before .before .before .before .before .before .before .before .before .before .before .args .shape .kinds), c .before .before .before .before .before .before .ladders-in .ensures)
+add-l c = omega (
+  arith,
+  few (c .before .before .before .before .before .before .before .before .before .before .before .before
+      .args .shape .kinds),
+  c .before .before .before .before .before .before .ladders-in .ensures,
+)
 
 loop-less : tie.Need-loop-less Inv-loop μ-loop
 loop-less c = search needs
@@ -48,7 +60,8 @@ loop-again c =
       search needs,
       c .before .before .list-one .kept .0 ∙ l .inv .1,
       found-more _ (l .l) (l .inv .2) (c .before .before .list-one .ensures .0),
-      found-turn _ (s .date) (s .book .now) (s .out .now) _ _ (l .n) (l .l) (l .inv .2) (l .inv .3) (c .before .before .list-one .ensures .1),
+      found-turn _ (s .date) (s .book .now) (s .out .now) _ _ (l .n) (l .l) (l .inv .2) (l .inv .3)
+          (c .before .before .list-one .ensures .1),
     )
 
 same-length : tie.Need-same-length Inv-loop μ-loop
@@ -57,7 +70,9 @@ same-length c = search needs
 returns : tie.Need-returns Inv-loop μ-loop
 unfolding findings verdictIn
 returns c =
-    let e : c .before .loop .l ≡ ladders (c .before .before .before .before .before .before .before .before .args .shape .kinds) = omega (arith, c .before .before .ladders-in .ensures) in
+    let e : c .before .loop .l
+    ≡ ladders (c .before .before .before .before .before .before .before .before .args .shape .kinds) =
+    omega (arith, c .before .before .ladders-in .ensures) in
     rw e at (c .before .loop .inv .3)
 
 pub list-all-spec : {M : Type 1} → statement M

@@ -13,10 +13,12 @@ is-later-year-requires : tie.Need-is-later-year-requires
 is-later-year-requires c κs = search needs
 
 mul-get16 : tie.Need-mul-get16
-mul-get16 c = omega (arith, few (c .before .before .before .before .before .before .before .before .args .shape .kinds))
+mul-get16 c =
+    omega (arith, few (c .before .before .before .before .before .before .before .before .args .shape .kinds))
 
 add-get16 : tie.Need-add-get16
-add-get16 c = omega (arith, few (c .before .before .before .before .before .before .before .before .args .shape .kinds))
+add-get16 c =
+    omega (arith, few (c .before .before .before .before .before .before .before .before .args .shape .kinds))
 
 get16-requires : tie.Need-get16-requires
 get16-requires c κs = search needs

@@ -10,7 +10,11 @@ group-at-requires : tie.Need-group-at-requires
 group-at-requires c κs = search needs
 
 cast-group : tie.Need-cast-group
-cast-group c = omega (arith, group-low (c .before .before .args .kinds) (c .before .before .args .ladder) (c .before .before .pre .1))
+cast-group c = omega (
+  arith,
+  group-low (c .before .before .args .kinds) (c .before .before .args .ladder)
+      (c .before .before .pre .1),
+)
 
 kind-at-requires : tie.Need-kind-at-requires
 kind-at-requires c κs = search needs
@@ -52,14 +56,18 @@ put16-requires-2 : tie.Need-put16-requires-2
 put16-requires-2 c κs = search needs
 
 same-length : tie.Need-same-length
-same-length c = let first = simp length-set at (c .before .before .before .before .before .before .put16 .kept .0) in search needs
+same-length c = let first = simp length-set at (c .before .before .before .before .before .before .put16 .kept .0) in
+    search needs
 
 returns : tie.Need-returns
 returns c =
     let start = c .before .before .before .before .before .before .before .before .before .before .before in
     let a = start .args in
-    finding-written (a .kinds) (a .out .now) _ _ (a .at) (a .ladder) _ _ (a .sanction) (a .total) (a .id) (start .pre .0)
-    (c .before .before .before .before .before .before .before .before .before .group-at .ensures) (c .before .before .before .before .before .before .before .before .kind-at .ensures) (c .before .before .before .before .before .before .put16 .ensures) (c .before .before .put162 .ensures)
+    finding-written (a .kinds) (a .out .now) _ _ (a .at) (a .ladder) _ _ (a .sanction) (a .total) (a .id)
+    (start .pre .0)
+    (c .before .before .before .before .before .before .before .before .before .group-at .ensures)
+    (c .before .before .before .before .before .before .before .before .kind-at .ensures)
+    (c .before .before .before .before .before .before .put16 .ensures) (c .before .before .put162 .ensures)
 
 pub put-finding-spec : {M : Type 1} → statement M
 put-finding-spec =

@@ -23,11 +23,16 @@ same-length-2 c = search needs
 
 returns : tie.Need-returns
 returns c =
-    let s = c .before .before .before .before .before .before .before .before .before .before .before .before .before .before .before .before .before .before .before .before in
+    let s = c .before .before .before .before .before .before .before .before .before .before .before .before .before
+    .before .before .before .before .before .before .before in
     let a = s .args in (
-      book-written (a .shape) (a .rulebook) (a .places .now) (a .ids .now) (a .members .now) (a .date) (a .book .now) _ _ _ (c .before .before .before .before .before .before .before .before .is-later-year .ensures)
-          (s .pre .0) (c .before .before .before .before .before .before .raise-all .ensures) (c .before .before .put-head .ensures),
-      c .before .before .before .before .before .before .before .before .before .before .before .before .list-all .ensures,
+      book-written (a .shape) (a .rulebook) (a .places .now) (a .ids .now) (a .members .now) (a .date)
+          (a .book .now) _ _ _
+          (c .before .before .before .before .before .before .before .before .is-later-year .ensures)
+          (s .pre .0) (c .before .before .before .before .before .before .raise-all .ensures)
+          (c .before .before .put-head .ensures),
+      c .before .before .before .before .before .before .before .before .before .before .before .before .list-all
+          .ensures,
     )
 
 pub write-day-spec : {M : Type 1} → statement M

@@ -12,7 +12,8 @@ use Rattle.verdict.proofs.totals.raise_all.Statement.{statement}
 use Rattle.verdict.proofs.totals.raise_all.Tie as tie
 
 abbrev Inv-loop : tie.InvT-loop
-Inv-loop book₀ later places contracts own g₀ book g = (g ≤ 128) × (length book ≡ length book₀) × (book ≡ put book₀ 16 (rows (groupBytes own later places book₀ contracts) g))
+Inv-loop book₀ later places contracts own g₀ book g = (g ≤ 128) × (length book ≡ length book₀)
+    × (book ≡ put book₀ 16 (rows (groupBytes own later places book₀ contracts) g))
 
 abbrev μ-loop : tie.MeasureT-loop
 μ-loop book₀ later places contracts own g₀ book g = 128 - g
@@ -109,9 +110,13 @@ returns c =
     let l = c .before .loop in
     let e : l .g ≡ 128 = omega arith in
     l .inv .2
-    ∙ ap (λ n. put (s .args .book .now) 16 (rows (groupBytes (16 * c .before .before .kinds-in .result) (s .args .later) (s .args .places .now) (s .args .book .now) (s .args .contracts)) n)) e
+    ∙ ap (λ n. put (s .args .book .now) 16
+    (rows (groupBytes (16 * c .before .before .kinds-in .result) (s .args .later) (s .args .places .now)
+    (s .args .book .now) (s .args .contracts)) n)) e
     ∙ ap (put (s .args .book .now) 16)
-    (all-groups (16 * c .before .before .kinds-in .result) (s .args .later) (s .args .places .now) (s .args .book .now) (s .args .contracts) (ladders (s .args .kinds)) (omega (arith, c .before .before .kinds-in .ensures)))
+    (all-groups (16 * c .before .before .kinds-in .result) (s .args .later) (s .args .places .now)
+    (s .args .book .now) (s .args .contracts) (ladders (s .args .kinds))
+    (omega (arith, c .before .before .kinds-in .ensures)))
 
 pub raise-all-spec : {M : Type 1} → statement M
 raise-all-spec =

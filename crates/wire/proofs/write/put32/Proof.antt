@@ -20,7 +20,8 @@ same-length : tie.Need-same-length
 same-length c = search needs
 
 returns-3 : tie.Need-returns-3
-returns-3 c = let a = c .before .before .before .before .before .before .before .args in fitting 4 (a .s .now) _ (a .at) (a .v) (omega arith) (c .before .before .store32 .ensures)
+returns-3 c = let a = c .before .before .before .before .before .before .before .args in
+    fitting 4 (a .s .now) _ (a .at) (a .v) (omega arith) (c .before .before .store32 .ensures)
 
 pub put32-spec : {M : Type 1} → statement M
 put32-spec = tie.close (tie.spec returns sub-if2 returns-2 store32-requires same-length returns-3)

@@ -13,7 +13,8 @@ same-length : tie.Need-same-length
 same-length c = search needs
 
 returns : tie.Need-returns
-returns c = let a = c .before .args in put-sets (a .s .now) (a .at) (a .v ∷ []) (omega arith) ∙ sym (put-in (a .s .now) (a .at) (a .v ∷ []) (omega arith))
+returns c = let a = c .before .args in put-sets (a .s .now) (a .at) (a .v ∷ []) (omega arith)
+    ∙ sym (put-in (a .s .now) (a .at) (a .v ∷ []) (omega arith))
 
 returns-2 : tie.Need-returns-2
 returns-2 c = let a = c .before .args in past-end (a .s .now) (a .at) (a .v ∷ []) (omega arith)

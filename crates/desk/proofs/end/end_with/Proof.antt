@@ -66,7 +66,8 @@ returns-2 c =
     let judged = e .before .before .before .judge-cells .ensures .1 (e .if1 .left) in
     rw (c .before .found .given .1) at
     (ended-by (a .day) (a .log .now) (a .counts .now) (h .0) (h .1) (small e) (none e)
-    (a .book .now) (a .out .now) (h .4) (rw judged at (c .before .before .before .before .before .before .before .settle-day .ensures)))
+    (a .book .now) (a .out .now) (h .4)
+    (rw judged at (c .before .before .before .before .before .before .before .settle-day .ensures)))
 
 same-length-5 : tie.Need-same-length-5
 same-length-5 c = search needs
@@ -85,7 +86,8 @@ returns-3 c =
     let judged = e .before .before .before .judge-cells .ensures .1 (e .if1 .left) in
     rw (c .before .number .given .1) at
     (ended-by (a .day) (a .log .now) (a .counts .now) (h .0) (h .1) (small e) (none e)
-    (a .book .now) (a .out .now) (h .4) (rw judged at (c .before .before .before .before .before .before .before .settle-day .ensures)))
+    (a .book .now) (a .out .now) (h .4)
+    (rw judged at (c .before .before .before .before .before .before .before .settle-day .ensures)))
 
 pub end-with-spec : {M : Type 1} → statement M
 end-with-spec =

@@ -67,7 +67,8 @@ returns-2 c =
     let h = start e .pre in
     let judged = e .before .before .before .judge-cells .ensures .1 (e .if1 .left) in
     found-short (a .day) (a .log .now) (a .counts .now) (h .0) (h .1) (small e) (none e) (a .room) _
-    (rw (c .before .before .before .before .kinds-of .ensures, judged) at (c .before .count-found .ensures)) (c .if2 .taken)
+    (rw (c .before .before .before .before .kinds-of .ensures, judged) at (c .before .count-found .ensures))
+    (c .if2 .taken)
 
 same-length-3 : tie.Need-same-length-3
 same-length-3 c = search needs
@@ -79,7 +80,8 @@ returns-3 c =
     let h = start e .pre in
     let judged = e .before .before .before .judge-cells .ensures .1 (e .if1 .left) in
     found-done (a .day) (a .log .now) (a .counts .now) (h .0) (h .1) (small e) (none e) (a .room) _
-    (rw (c .before .before .before .before .kinds-of .ensures, judged) at (c .before .count-found .ensures)) (c .if2 .left)
+    (rw (c .before .before .before .before .kinds-of .ensures, judged) at (c .before .count-found .ensures))
+    (c .if2 .left)
 
 pub find-with-spec : {M : Type 1} → statement M
 find-with-spec =

@@ -1,11 +1,11 @@
 // One day of the desk, from standard input: opened, its records taken, ended.
-use crate::input::Got;
 use crate::input::fill_from_input;
 use daylog::header::header_of;
 use daylog::record::record_length;
 use desk::end::Ended;
 use desk::state::Answer;
 use desk::state::State;
+use files::input::Got;
 use places::MOST_CELLS;
 use wire::refusal::FULL;
 use wire::refusal::LENGTH;

@@ -1,46 +1,11 @@
-// Reading: a buffer is filled whatever the size of the drops in which the bytes come.
+// What comes on standard input: the log, and first its header with the tables.
 use daylog::header::header_of;
+use files::input::Got;
+use files::input::fill;
 use libc::STDIN_FILENO;
 ghost use mathlib.Core.Path.{_≡_};
 ghost use Prim.Native.Nat.{_≤_};
 ghost use lib.ListN.{length};
-
-// How many bytes came, and whether a read failed after them. Fewer than asked for is the end of what can be read.
-pub(crate) struct Got {
-    pub count: usize,
-    pub failed: bool,
-}
-
-fn read_some(fd: i32, part: &mut [u8]) -> Got
-    ensures { λ r. ⌜ r .count ≤ length (now (part .exit)) ⌝ }
-{
-    let got = libc::read(fd, part);
-    Got {
-        count: io::count(got, part),
-        failed: got < 0,
-    }
-}
-
-pub(crate) fn fill(fd: i32, buf: &mut [u8]) -> Got
-    ensures { λ r. ⌜ r .count ≤ length (now (buf .exit)) ⌝ }
-{
-    let mut done = 0;
-    while done < buf.len() {
-        let got = read_some(fd, &mut buf[done..]);
-        let count = got.count;
-        if count == 0 {
-            return Got {
-                count: done,
-                failed: got.failed,
-            };
-        }
-        done += count;
-    }
-    Got {
-        count: done,
-        failed: false,
-    }
-}
 
 // Standard input that cannot be read counts as cut off there, and the clerk is told why.
 pub(crate) fn fill_from_input(buf: &mut [u8]) -> Got

@@ -6,15 +6,21 @@ mod keep;
 mod print;
 
 use day::Outcome;
-use places::MOST_BOOK;
+use keep::FILE;
 use places::MOST_FINDINGS;
 
-// The findings go out before the book is replaced: where they cannot be printed, the day may be run again.
-fn finish(log: &[u8], book: &[u8], findings: &[u8], found: usize) {
+// The new book is ready before the findings go out, and takes the old one's place after them: where they cannot be
+// printed, the day may be run again.
+fn finish(log: &[u8], old: &[u8], new: &[u8], findings: &[u8], found: usize) {
+    let mut name = *b"book.axb.new.XXXXXX";
+    if !keep::make_ready(&mut name, new) {
+        return;
+    }
     if print::print_day(log, findings, found) {
-        keep::write_back(book);
+        keep::replace(&name, old, new);
     } else {
         os::fail(b"clerk: book.axb is left as it was, standard output cannot be written");
+        os::unlink(&name);
     }
 }
 
@@ -24,21 +30,19 @@ fn refuse(number: u32) {
     }
 }
 
-fn run(log: &[u8], book: &mut [u8]) {
+fn run(log: &[u8], old: &[u8], book: &mut [u8]) {
     let mut findings = [0u8; MOST_FINDINGS];
     match day::judge_day(log, book, &mut findings) {
         Outcome::Refused(number) => refuse(number),
-        Outcome::Ended(found) => finish(log, book, &findings, found),
+        Outcome::Ended(found) => finish(log, old, book, &findings, found),
     }
 }
 
-// A byte more than the longest book: a file that is longer is no book.
-const FILE: usize = MOST_BOOK + 1;
-
 fn main() {
-    let mut book = [0u8; FILE];
-    let size = keep::read_book(&mut book);
+    let mut old = [0u8; FILE];
+    let size = keep::read_book(&mut old);
     let mut log = [0u8; 4368];
     let end = input::read_tables(&mut log);
-    run(&log[0..end], &mut book[0..size]);
+    let mut book = old;
+    run(&log[0..end], &old[0..size], &mut book[0..size]);
 }

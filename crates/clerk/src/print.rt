@@ -1,5 +1,6 @@
 // What the clerk reads: each line is made whole, and then written at once.
 use daylog::header::header_of;
+use files::output::put_all;
 use libc::STDOUT_FILENO;
 use wire::read::get8;
 use wire::read::get16;
@@ -41,12 +42,16 @@ fn add_number(line: &mut [u8], at: usize, n: u64, after: u8) -> usize
     add_byte(line, next, after)
 }
 
+fn put(line: &[u8]) -> bool {
+    put_all(STDOUT_FILENO, line) == line.len()
+}
+
 // A word, a number and the line's end, printed.
 fn print_count(word: &[u8], n: u64) -> bool {
     let mut line = [0u8; 32];
     let at = add_text(&mut line, 0, word);
     let end = add_number(&mut line, at, n, b'\n');
-    io::write_all(STDOUT_FILENO, &line[0..end])
+    put(&line[0..end])
 }
 
 // The exchange by its rulebook, with the line's end.
@@ -66,7 +71,7 @@ fn print_heading(log: &[u8]) -> bool {
     let date = add_text(&mut line, 0, b"AXD ");
     let exchange = add_number(&mut line, date, head.date as u64, b' ');
     let end = add_exchange(&mut line, exchange, head.rulebook);
-    io::write_all(STDOUT_FILENO, &line[0..end])
+    put(&line[0..end])
 }
 
 // A finding's 8 bytes are group, kind, family, sanction, total and contract; its line names the total before the
@@ -85,7 +90,7 @@ fn add_finding(line: &mut [u8], finding: &[u8]) -> usize
 fn print_finding(finding: &[u8]) -> bool {
     let mut line = [0u8; 32];
     let end = add_finding(&mut line, finding);
-    io::write_all(STDOUT_FILENO, &line[0..end])
+    put(&line[0..end])
 }
 
 // The first `found` findings, one line each.

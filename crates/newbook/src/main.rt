@@ -1,5 +1,8 @@
 // Makes a fresh `book.axb` in the working folder, for the rulebook that its argument names. It never touches one that
 // is there.
+use files::output::flush_folder;
+use files::output::put_all;
+use files::output::store;
 use libc::STDERR_FILENO;
 use libc::STDOUT_FILENO;
 use places::MOST_BOOK;
@@ -27,25 +30,6 @@ fn rulebook_asked() -> u64 {
     (digit - b'0') as u64
 }
 
-// Writes the whole book, sees it on the disk and closes the file. Where a step fails it says which and why.
-fn store(fd: i32, book: &[u8]) -> bool {
-    if !io::write_all(fd, book) {
-        os::fail(b"newbook: book.axb cannot be written");
-        libc::close(fd);
-        return false;
-    }
-    if libc::fsync(fd) < 0 {
-        os::fail(b"newbook: book.axb cannot be flushed to disk");
-        libc::close(fd);
-        return false;
-    }
-    if libc::close(fd) < 0 {
-        os::fail(b"newbook: book.axb cannot be closed");
-        return false;
-    }
-    true
-}
-
 // The file is made only where the name is free, so what is taken away after a failure is our own.
 fn make(book: &[u8]) -> bool {
     let fd = os::create(b"book.axb");
@@ -53,15 +37,17 @@ fn make(book: &[u8]) -> bool {
         os::fail(b"newbook: book.axb cannot be made");
         return false;
     }
-    if !store(fd, book) {
+    if store(fd, book, b"newbook: book.axb cannot be written") < 0 {
         os::unlink(b"book.axb");
         return false;
     }
+    flush_folder(b"newbook: book.axb is made, its folder cannot be flushed to disk");
     true
 }
 
 fn tell_made() {
-    if !io::write_all(STDOUT_FILENO, b"made book.axb\n") {
+    let line = b"made book.axb\n";
+    if put_all(STDOUT_FILENO, line) < line.len() {
         os::fail(b"newbook: book.axb is made, standard output cannot be written");
     }
 }

@@ -124,7 +124,13 @@ fn make(
     }
 }
 
-// Makes the call, prints its line, and gives the state to keep.
+// The state to keep after a call, and whether its line went out.
+pub(crate) struct Called {
+    pub(crate) state: State,
+    pub(crate) printed: bool,
+}
+
+// Makes the call and prints its line.
 pub(crate) fn call(
     one: &[u8],
     state: State,
@@ -132,10 +138,12 @@ pub(crate) fn call(
     book: &mut [u8],
     counts: &mut [u32],
     findings: &mut [u8],
-) -> State {
+) -> Called {
     let m = make(one, state, tables, book, counts, findings);
     let next = m.state;
     let told = m.told;
-    print(one, m.fault, next, book, counts, findings, told);
-    next
+    Called {
+        state: next,
+        printed: print(one, m.fault, next, book, counts, findings, told),
+    }
 }

@@ -1,5 +1,7 @@
 // The line after a call: its letter, the refusal's number, the state, the buffers' checksums, and what else it told.
+use daylog::header::Header;
 use desk::state::State;
+use files::output::put_all;
 use libc::STDOUT_FILENO;
 ghost use Prim.Native.Nat.{_<_};
 
@@ -11,44 +13,41 @@ pub(crate) enum Told {
     Total(u16, u8),
 }
 
-pub(crate) fn bad() {
-    io::write_all(STDOUT_FILENO, b"bad script\n");
+fn put(text: &[u8]) -> bool {
+    put_all(STDOUT_FILENO, text) == text.len()
 }
 
-fn say(n: u64) {
-    io::write_all(STDOUT_FILENO, b" ");
-    io::print_decimal(STDOUT_FILENO, n);
+pub(crate) fn bad() -> bool {
+    put(b"bad script\n")
 }
 
-fn say_state(state: State) {
+fn say(n: u64) -> bool {
+    let mut digits = [0u8; 20];
+    let k = io::decimal(n, &mut digits);
+    put(b" ") && put(&digits[..k])
+}
+
+fn say_header(head: Header) -> bool {
+    say(head.rulebook as u64)
+        && say(head.version as u64)
+        && say(head.date as u64)
+        && say(head.contracts as u64)
+        && say(head.accounts as u64)
+        && say(head.spare as u64)
+}
+
+fn say_state(state: State) -> bool {
     match state {
-        State::Closed => {
-            io::write_all(STDOUT_FILENO, b" closed");
-        }
-        State::Open(day) => {
-            io::write_all(STDOUT_FILENO, b" open");
-            let head = day.head;
-            say(head.rulebook as u64);
-            say(head.version as u64);
-            say(head.date as u64);
-            say(head.contracts as u64);
-            say(head.accounts as u64);
-            say(head.spare as u64);
-            say(day.taken as u64);
-        }
+        State::Closed => put(b" closed"),
+        State::Open(day) => put(b" open") && say_header(day.head) && say(day.taken as u64),
     }
 }
 
-fn say_told(told: Told) {
+fn say_told(told: Told) -> bool {
     match told {
-        Told::Nothing => {}
-        Told::Findings(n) => {
-            say(n as u64);
-        }
-        Told::Total(total, rung) => {
-            say(total as u64);
-            say(rung as u64);
-        }
+        Told::Nothing => true,
+        Told::Findings(n) => say(n as u64),
+        Told::Total(total, rung) => say(total as u64) && say(rung as u64),
     }
 }
 
@@ -88,6 +87,11 @@ fn of_numbers(c: &[u32]) -> u64 {
     h
 }
 
+fn say_sums(book: &[u8], counts: &[u32], findings: &[u8]) -> bool {
+    say(of_bytes(book)) && say(of_numbers(counts)) && say(of_bytes(findings))
+}
+
+// Whether the whole line went out.
 pub(crate) fn print(
     one: &[u8],
     fault: u32,
@@ -96,16 +100,14 @@ pub(crate) fn print(
     counts: &[u32],
     findings: &[u8],
     told: Told,
-) {
+) -> bool {
     if one.len() < 1 {
-        return;
+        return true;
     }
-    io::write_all(STDOUT_FILENO, &one[0..1]);
-    say(fault as u64);
-    say_state(state);
-    say(of_bytes(book));
-    say(of_numbers(counts));
-    say(of_bytes(findings));
-    say_told(told);
-    io::write_all(STDOUT_FILENO, b"\n");
+    put(&one[0..1])
+        && say(fault as u64)
+        && say_state(state)
+        && say_sums(book, counts, findings)
+        && say_told(told)
+        && put(b"\n")
 }

@@ -5,6 +5,7 @@ mod line;
 mod script;
 mod setup;
 
+use files::input::fill;
 use libc::STDIN_FILENO;
 use setup::Setup;
 use setup::Step;
@@ -46,7 +47,7 @@ fn whole_step(
         &mut counts[0..c],
         &mut findings[0..f],
     );
-    setup::moved(one, s, next)
+    setup::after_call(one, s, next)
 }
 
 // The step at the start of `rest`.
@@ -66,6 +67,16 @@ fn step(
     whole_step(&rest[0..size], s, counts, findings, book, tables)
 }
 
+fn unprinted() {
+    os::fail(b"replay: standard output cannot be written");
+}
+
+fn bad_script() {
+    if !line::bad() {
+        unprinted();
+    }
+}
+
 fn replay(all: &[u8], counts: &mut [u32], findings: &mut [u8], book: &mut [u8], tables: &mut [u8])
     requires { ⌜ (length (now all) ≤ 1000000) × (length (now counts) ≡ 20000) × (length (now findings) ≡ 70000) ×
         (length (now book) ≡ 20000) × (length (now tables) ≡ 8192) ⌝ }
@@ -74,8 +85,12 @@ fn replay(all: &[u8], counts: &mut [u32], findings: &mut [u8], book: &mut [u8], 
     let mut at = 0;
     while at < all.len() {
         let next = step(&all[at..], s, counts, findings, book, tables);
+        if !next.printed {
+            unprinted();
+            return;
+        }
         if next.used == 0 {
-            line::bad();
+            bad_script();
             return;
         }
         at += next.used;
@@ -86,7 +101,7 @@ fn replay(all: &[u8], counts: &mut [u32], findings: &mut [u8], book: &mut [u8], 
 // A script of at most 1,000,000 bytes, on buffers at their largest.
 fn replay_script(all: &[u8]) {
     if 1000000 < all.len() {
-        line::bad();
+        bad_script();
         return;
     }
     let mut counts = [0u32; 20000];
@@ -105,6 +120,11 @@ fn room() -> [u8; 1000001]
 
 fn main() {
     let mut all = room();
-    let n = io::read_full(STDIN_FILENO, &mut all);
-    replay_script(&all[..n]);
+    let got = fill(STDIN_FILENO, &mut all);
+    if got.failed {
+        os::fail(b"replay: standard input cannot be read");
+        return;
+    }
+    let n = got.count;
+    replay_script(&all[0..n]);
 }

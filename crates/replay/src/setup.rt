@@ -1,4 +1,5 @@
 // What a script has set up: the state, and how much of each buffer is in use; and the steps that change it.
+use crate::call::Called;
 use crate::script::bytes_from;
 use crate::script::get_length;
 use daylog::header::Header;
@@ -20,9 +21,10 @@ pub(crate) struct Setup {
     pub(crate) tables: usize,
 }
 
-// The bytes that a step took, 0 where it breaks the rules, and the setup after it.
+// The bytes that a step took, 0 where it breaks the rules, whether what it prints went out, and the setup after it.
 pub(crate) struct Step {
     pub(crate) used: usize,
+    pub(crate) printed: bool,
     pub(crate) setup: Setup,
 }
 
@@ -43,7 +45,11 @@ pub(crate) fn broken(s: Setup) -> Step
     requires { ⌜ Within s ⌝ }
     ensures { λ r. ⌜ Within (r .setup) × (r .used ≡ 0) ⌝ }
 {
-    Step { used: 0, setup: s }
+    Step {
+        used: 0,
+        printed: true,
+        setup: s,
+    }
 }
 
 fn changed(one: &[u8], s: Setup) -> Step
@@ -52,11 +58,12 @@ fn changed(one: &[u8], s: Setup) -> Step
 {
     Step {
         used: one.len(),
+        printed: true,
         setup: s,
     }
 }
 
-pub(crate) fn moved(one: &[u8], s: Setup, state: State) -> Step
+fn moved(one: &[u8], s: Setup, state: State) -> Step
     requires { ⌜ Within s ⌝ }
     ensures { λ r. ⌜ Within (r .setup) × (r .used ≡ length (now (one .entry))) ⌝ }
 {
@@ -68,6 +75,17 @@ pub(crate) fn moved(one: &[u8], s: Setup, state: State) -> Step
         tables: s.tables,
     };
     changed(one, next)
+}
+
+// A call was made, which printed its line or could not.
+pub(crate) fn after_call(one: &[u8], s: Setup, called: Called) -> Step
+    requires { ⌜ Within s ⌝ }
+    ensures { λ r. ⌜ Within (r .setup) × (r .used ≡ length (now (one .entry))) ⌝ }
+{
+    let state = called.state;
+    let mut step = moved(one, s, state);
+    step.printed = called.printed;
+    step
 }
 
 // S: a day open by hand. Byte 1 of the step is byte 3 of a header.

@@ -2,8 +2,8 @@ use mathlib.Core.Path.{_≡_}
 use Prim.Native.Nat.{_-_, _≤_}
 use lib.ListN.{length}
 use borrow.Author.Needs.{needs}
-use Rattle.clerk.proofs.input.fill.Statement.{statement}
-use Rattle.clerk.proofs.input.fill.Tie as tie
+use Rattle.files.proofs.input.fill.Statement.{statement}
+use Rattle.files.proofs.input.fill.Tie as tie
 
 abbrev Inv-loop : tie.InvT-loop
 Inv-loop fd buf₀ done₀ buf done = (done ≤ length buf₀) × (length buf ≡ length buf₀)

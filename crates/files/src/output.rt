@@ -1,0 +1,94 @@
+// Writing: all of a buffer, and seen on the disk where that is asked for.
+use crate::TRIES;
+use libc::EINTR;
+use libc::EINVAL;
+ghost use Prim.Native.Nat.{_≤_};
+ghost use lib.ListN.{length};
+ghost use Rattle.libc.specs.Io.{Status};
+
+// One write; where a signal cut it off before a byte went, it is made again. 0 where it failed.
+fn write_some(fd: i32, part: &[u8]) -> usize
+    ensures { λ r. ⌜ r ≤ length (now (part .entry)) ⌝ }
+{
+    for _ in 0..TRIES {
+        let put = libc::write(fd, part);
+        if 0 <= put {
+            return io::count(put, part);
+        }
+        if os::errno() != EINTR {
+            break;
+        }
+    }
+    0
+}
+
+// How many of the bytes went: all, or fewer where a write failed, and then errno says why.
+pub fn put_all(fd: i32, bytes: &[u8]) -> usize
+    ensures { λ r. ⌜ r ≤ length (now (bytes .entry)) ⌝ }
+{
+    let mut done = 0;
+    while done < bytes.len() {
+        let put = write_some(fd, &bytes[done..]);
+        if put == 0 {
+            break;
+        }
+        done += put;
+    }
+    done
+}
+
+fn flush(fd: i32) -> i32
+    ensures { λ r. ⌜ Status r ⌝ }
+{
+    for _ in 0..TRIES {
+        if libc::fsync(fd) == 0 {
+            return 0;
+        }
+        if os::errno() != EINTR {
+            break;
+        }
+    }
+    -1
+}
+
+// Says the words and why the last call failed, and closes the file.
+fn give_up(fd: i32, words: &[u8]) -> i32
+    ensures { λ r. ⌜ Status r ⌝ }
+{
+    os::fail(words);
+    libc::close(fd);
+    -1
+}
+
+// Writes all the bytes, sees them on the disk and closes the file: 0; or -1, and the words are said, and why.
+pub fn store(fd: i32, bytes: &[u8], words: &[u8]) -> i32
+    ensures { λ r. ⌜ Status r ⌝ }
+{
+    if put_all(fd, bytes) < bytes.len() {
+        return give_up(fd, words);
+    }
+    if flush(fd) < 0 {
+        return give_up(fd, words);
+    }
+    libc::close(fd);
+    0
+}
+
+// Sees on the disk which files the working folder names: 0; or -1, and the words are said, and why. A file system that
+// flushes no folders (EINVAL) keeps them by itself.
+pub fn flush_folder(words: &[u8]) -> i32
+    ensures { λ r. ⌜ Status r ⌝ }
+{
+    let fd = os::open_read(b".");
+    if fd < 0 {
+        os::fail(words);
+        return -1;
+    }
+    if flush(fd) < 0 {
+        if os::errno() != EINVAL {
+            return give_up(fd, words);
+        }
+    }
+    libc::close(fd);
+    0
+}

@@ -6,6 +6,11 @@ ghost use Prim.Native.Nat.{_≤_};
 ghost use lib.ListN.{length};
 ghost use Rattle.libc.specs.Io.{Status};
 
+// What a call answers: the kit's own way, so that errno goes with it.
+const DONE: i32 = 0;
+
+const FAILED: i32 = -1;
+
 // One write; where a signal cut it off before a byte went, it is made again. 0 where it failed.
 fn write_some(fd: i32, part: &[u8]) -> usize
     ensures { λ r. ⌜ r ≤ length (now (part .entry)) ⌝ }
@@ -42,13 +47,13 @@ fn flush(fd: i32) -> i32
 {
     for _ in 0..TRIES {
         if libc::fsync(fd) == 0 {
-            return 0;
+            return DONE;
         }
         if os::errno() != EINTR {
             break;
         }
     }
-    -1
+    FAILED
 }
 
 // Says the words and why the last call failed, and closes the file.
@@ -57,10 +62,10 @@ fn give_up(fd: i32, words: &[u8]) -> i32
 {
     os::fail(words);
     libc::close(fd);
-    -1
+    FAILED
 }
 
-// Writes all the bytes, sees them on the disk and closes the file: 0; or -1, and the words are said, and why.
+// Writes all the bytes, sees them on the disk and closes the file; where a step fails the words are said, and why.
 pub fn store(fd: i32, bytes: &[u8], words: &[u8]) -> i32
     ensures { λ r. ⌜ Status r ⌝ }
 {
@@ -71,18 +76,18 @@ pub fn store(fd: i32, bytes: &[u8], words: &[u8]) -> i32
         return give_up(fd, words);
     }
     libc::close(fd);
-    0
+    DONE
 }
 
-// Sees on the disk which files the working folder names: 0; or -1, and the words are said, and why. A file system that
-// flushes no folders (EINVAL) keeps them by itself.
+// Sees on the disk which files the working folder names; where that fails the words are said, and why. A file system
+// that flushes no folders (EINVAL) keeps them by itself.
 pub fn flush_folder(words: &[u8]) -> i32
     ensures { λ r. ⌜ Status r ⌝ }
 {
     let fd = os::open_read(b".");
     if fd < 0 {
         os::fail(words);
-        return -1;
+        return FAILED;
     }
     if flush(fd) < 0 {
         if os::errno() != EINVAL {
@@ -90,5 +95,5 @@ pub fn flush_folder(words: &[u8]) -> i32
         }
     }
     libc::close(fd);
-    0
+    DONE
 }

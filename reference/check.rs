@@ -1,18 +1,24 @@
-//! The whole check: cases and joined years of a fixed and of a fresh seed, the large logs, the failing write-backs,
-//! newbook, the tables.
-use crate::cases::{BookFile, Case, Input};
-use crate::clerk;
-use crate::clerk_edges::{clerk_edges, worked_example, WORKED_EXAMPLE_TEXT};
+//! The whole check: cases and joined years of a fixed and of a fresh seed, the large logs, and what is around a day.
+use crate::cases::{Case, Input};
+use crate::clerk_edges::{clerk_edges, WORKED_EXAMPLE_TEXT};
 use crate::compare::{compare_all, Bench, Difference};
 use crate::edges::edges;
-use crate::failing::{failing, Stage};
+use crate::ending::Ending;
+use crate::failing::failing;
 use crate::generate::random_case;
+use crate::installed::installed;
 use crate::join_years::{check_years, Seen};
 use crate::large::large_cases;
 use crate::newbook::newbook;
+use crate::races::races;
 use crate::random::Random;
 use crate::run::Programs;
 use crate::script_edges::script_edges;
+use crate::signals::signals;
+use crate::stage::{Example, Stage};
+use crate::starting::starting;
+use crate::system_faults::system_faults;
+use crate::unusable::unusable;
 use crate::years::{some_year, Year};
 use std::fmt::Display;
 use std::path::Path;
@@ -111,11 +117,7 @@ fn print_seen(seen: &Seen) {
 
 /// The reference against document 01's own example.
 fn check_worked_example(score: &mut Score) {
-    let case = worked_example();
-    let Input::Clerk { book: BookFile::Bytes(book), logs } = case.input else {
-        unreachable!("the worked example has a book");
-    };
-    let text = clerk::clerk(Some(&book), &logs[0].0[..]).map(|outcome| outcome.text).unwrap_or_default();
+    let text = Example::worked().text;
     if text == WORKED_EXAMPLE_TEXT {
         score.add(1, 0);
     } else {
@@ -124,20 +126,31 @@ fn check_worked_example(score: &mut Score) {
     }
 }
 
-fn check_each(title: &str, results: Vec<(impl Display, Result<(), String>)>, score: &mut Score) {
+/// A case that is left out counts neither way.
+fn check_each(title: &str, results: Vec<(impl Display, impl Into<Ending>)>, score: &mut Score) {
     println!("\n{title}");
-    for (name, result) in results {
-        match result {
-            Ok(()) => {
-                println!("ok       {name}");
-                score.add(1, 0);
-            }
-            Err(what) => {
-                println!("FAILED   {name}: {what}");
-                score.add(0, 1);
-            }
-        }
+    for (name, ending) in results {
+        let (word, passed, failed, what) = match ending.into() {
+            Ending::Passed(what) => ("ok", 1, 0, what),
+            Ending::Failed(what) => ("FAILED", 0, 1, what),
+            Ending::LeftOut(why) => ("left out", 0, 0, why),
+        };
+        let colon = if what.is_empty() { "" } else { ": " };
+        println!("{word:8}  {name}{colon}{what}");
+        score.add(passed, failed);
     }
+}
+
+/// What is around a day: the files, the streams, other clerks, how the programs are started, the system.
+fn check_around(stage: &Stage, score: &mut Score) {
+    check_each("the write-back made to fail", failing(stage), score);
+    check_each("a fresh book by newbook", newbook(stage), score);
+    check_each("books and streams that cannot be used", unusable(stage), score);
+    check_each("two clerks at once", races(stage), score);
+    check_each("bin/run", starting(stage), score);
+    check_each("signals to bin/run", signals(stage), score);
+    check_each("installed", installed(stage), score);
+    check_each("faults of the system", system_faults(stage), score);
 }
 
 pub fn check(seeds: [&str; 2], root: &Path, before: &[&str]) -> ExitCode {
@@ -154,9 +167,7 @@ pub fn check(seeds: [&str; 2], root: &Path, before: &[&str]) -> ExitCode {
     for (label, seed) in [("join-fixed", fixed), ("join-fresh", fresh)] {
         run_joins(seed, &Bench { programs: &programs, folder, label }, &mut score);
     }
-    let stage = Stage { programs: &programs, folder };
-    check_each("the write-back made to fail", failing(&stage), &mut score);
-    check_each("a fresh book by newbook", newbook(&stage), &mut score);
+    check_around(&Stage { root, programs: &programs, folder }, &mut score);
     println!("\nthe fresh seed again: reference/check {fresh}");
     println!("{} passed, {} failed", score.passed, score.failed);
     if score.failed == 0 {

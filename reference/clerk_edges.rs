@@ -30,17 +30,23 @@ pub fn clerk_edges(random: &mut Random) -> Vec<Case> {
 
 /// Document 01's own example. Its text is compared with the document's in `check`.
 pub fn worked_example() -> Case {
+    clerk("the worked example", BookFile::Bytes(example_book()), vec![(example_day().log(), Feed::Pipe)])
+}
+
+pub fn example_book() -> Vec<u8> {
+    build::book(1, 20240304, &[Total { group: 3, kind: 1, family: 0, total: 1 }])
+}
+
+pub fn example_day() -> Day {
     let account = |number| Account { number, group: 3, kind: 1 };
     let trade = |buyer| Record::Trade { contract: 101, buyer, seller: 12, lots: 1, orders: [(1, 1); 2] };
-    let day = Day {
+    Day {
         rulebook: 1,
         date: 20240305,
         contracts: vec![Contract { id: 101, contract_type: 1, product: 0, largest: 100 }],
         accounts: vec![account(11), account(12)],
         records: vec![(trade(11), 4), (trade(12), 1)],
-    };
-    let book = build::book(1, 20240304, &[Total { group: 3, kind: 1, family: 0, total: 1 }]);
-    clerk("the worked example", BookFile::Bytes(book), vec![(day.log(), Feed::Pipe)])
+    }
 }
 
 pub const WORKED_EXAMPLE_TEXT: &str = "AXD 20240305 DCE\n3 1 0 2 2 101\nfindings 1\n";

@@ -1,171 +1,138 @@
-//! The write-back made to fail. Each time the old book must be whole, standard error not empty, the exit status not 0.
+//! The write-back made to fail. Each time the old book must be whole and alone, standard error not empty, the status 1.
 //! The clerk is started by `bin/run`, as a clerk would: the exit status is made there.
-use crate::build;
-use crate::cases::{Feed, Input};
-use crate::clerk;
-use crate::clerk_edges::worked_example;
-use crate::compare::same_file;
-use crate::permissions::held_by_permissions;
-use crate::run::{command, run, run_as_set, Programs};
+use crate::cases::Feed;
+use crate::ending::{is_root, unless, Ending, Endings};
+use crate::permissions::{held_by_permissions, NOBODY};
+use crate::run::{command, run, run_as_set, shell_words, Waiting};
+use crate::stage::{empty_folder, has_status, prints, says, text, Example, Stage};
 use std::fs::{self, OpenOptions};
-use std::io;
-use std::os::unix::fs::PermissionsExt;
+use std::os::unix::fs::{chown, MetadataExt, PermissionsExt};
 use std::path::{Path, PathBuf};
 use std::process::{Command, Output, Stdio};
 
-/// The worked example's book and log, and what is printed of them.
-struct Example {
-    book: Vec<u8>,
-    log: Vec<u8>,
-    text: String,
-}
-
-fn example() -> Example {
-    let Input::Clerk { book: crate::cases::BookFile::Bytes(book), logs } = worked_example().input else {
-        unreachable!("the worked example has a book");
-    };
-    let log = logs[0].0.clone();
-    let text = clerk::clerk(Some(&book), &log[..]).expect("a slice can be read").text;
-    Example { book, log, text }
-}
-
-/// A folder with the example's book in it.
-fn folder_with_book(parent: &Path, name: &str, example: &Example) -> io::Result<PathBuf> {
-    let folder = parent.join(name);
-    if folder.exists() {
-        fs::set_permissions(&folder, fs::Permissions::from_mode(0o755))?;
-        fs::remove_dir_all(&folder)?;
-    }
-    fs::create_dir_all(&folder)?;
-    fs::write(folder.join("book.axb"), &example.book)?;
-    Ok(folder)
-}
-
-/// What must hold after every failure: the book is whole and the failure is said.
-fn said_and_whole(output: &Output, folder: &Path, example: &Example) -> Result<(), String> {
-    same_file(&folder.join("book.axb"), Some(&example.book))?;
-    if output.stderr.is_empty() {
-        return Err("standard error is empty".to_string());
-    }
-    Ok(())
-}
-
-fn failed_whole(output: &Output, folder: &Path, example: &Example) -> Result<(), String> {
-    said_and_whole(output, folder, example)?;
-    if output.status.success() {
-        return Err("the exit status is 0".to_string());
-    }
-    Ok(())
-}
-
-fn nothing_beside(folder: &Path) -> Result<(), String> {
-    match folder.join("book.axb.new").symlink_metadata() {
-        Ok(_) => Err("book.axb.new is left".to_string()),
-        Err(_) => Ok(()),
-    }
-}
-
-fn printed(output: &Output, example: &Example) -> Result<(), String> {
-    if output.stdout == example.text.as_bytes() {
-        return Ok(());
-    }
-    Err(format!("it printed {:?}", String::from_utf8_lossy(&output.stdout)))
-}
-
-pub struct Stage<'a> {
-    pub programs: &'a Programs,
-    pub folder: &'a Path,
-}
-
 type Test = fn(&Stage, &Example) -> Result<(), String>;
 
-pub fn failing(stage: &Stage) -> Vec<(&'static str, Result<(), String>)> {
-    let tests: [(&str, Test); 8] = [
+pub fn failing(stage: &Stage) -> Endings {
+    let tests: [(&str, Test); 9] = [
         ("a folder that cannot be written", no_permission),
         ("a full disk", full_disk),
-        ("book.axb.new is a folder", folder_beside),
         ("standard output is full", |stage, example| full_output(stage, example, true)),
         ("standard output is full, a refusal", |stage, example| full_output(stage, example, false)),
         ("standard output is closed", closed_output),
-        ("a book.axb.new left by a stop", left_over),
+        ("standard output is a pipe that nobody reads", unread_output),
+        ("a file left by a stop", left_over),
         ("a second try after a failure", second_try),
+        ("a book's mode and owner", kept_mode),
     ];
-    let example = example();
-    tests.map(|(name, test)| (name, test(stage, &example))).into()
+    let example = Example::worked();
+    let mut all: Endings = tests.map(|(name, test)| (name.to_string(), test(stage, &example).into())).into();
+    all.push(("a full small file system".to_string(), full_file_system(stage, &example)));
+    all
 }
 
-pub fn text(error: io::Error) -> String {
-    error.to_string()
+/// What must hold after every failure.
+fn failed_whole(output: &Output, folder: &Path, example: &Example) -> Result<(), String> {
+    example.is_kept(folder)?;
+    says(output, &["clerk: "])?;
+    has_status(output, 1)
 }
 
 /// The clerk as another user is started without `bin/run`, and its exit status says nothing.
 fn no_permission(stage: &Stage, example: &Example) -> Result<(), String> {
     let held = held_by_permissions(stage, "clerk", &stage.programs.clerk)?;
-    let folder = folder_with_book(&held.parent, "no-permission", example).map_err(text)?;
+    let folder = example.folder(&held.parent, "no-permission")?;
     let output = held.run_unwritable(&folder, &[], &example.log)?;
-    let judged = if held.as_nobody { said_and_whole } else { failed_whole };
-    let result = judged(&output, &folder, example).and(nothing_beside(&folder)).and(printed(&output, example));
+    let result = example.is_kept(&folder).and(says(&output, &[LEFT])).and(prints(&output, ""));
     held.clear(stage)?;
-    result
+    result.and(if held.as_nobody { Ok(()) } else { has_status(&output, 1) })
 }
+
+const LEFT: &str = "clerk: book.axb is left as it was, ";
 
 /// A limit on file sizes stands for a disk that fills.
 fn full_disk(stage: &Stage, example: &Example) -> Result<(), String> {
-    let folder = folder_with_book(stage.folder, "full-disk", example).map_err(text)?;
-    let output = run(through_shell(stage, &folder, FULL_DISK), &folder, &example.log, Feed::Pipe).map_err(text)?;
-    failed_whole(&output, &folder, example)?;
-    nothing_beside(&folder)?;
-    printed(&output, example)
+    let folder = example.folder(stage.folder, "full-disk")?;
+    run_without_room(through_shell(stage, &folder, FULL_DISK), &folder, example)
+}
+
+/// Where there is no room for the new book, nothing is printed.
+fn run_without_room(command: Command, folder: &Path, example: &Example) -> Result<(), String> {
+    let output = run(command, folder, &example.log, Feed::Pipe).map_err(text)?;
+    failed_whole(&output, folder, example)?;
+    says(&output, &[LEFT])?;
+    prints(&output, "")
 }
 
 fn through_shell(stage: &Stage, folder: &Path, line: &str) -> Command {
     command(&shell_words(line, stage.programs.through_run("clerk")), folder)
 }
 
-/// A line of shell around the words of a program, which it has as "$@".
-pub fn shell_words(line: &str, program: Vec<String>) -> Vec<String> {
-    let mut words: Vec<String> = ["/bin/sh", "-c", line, "sh"].map(String::from).into();
-    words.extend(program);
-    words
+/// A limit of 8 blocks on files: less than a book.
+pub const FULL_DISK: &str = "ulimit -f 8; exec \"$@\"";
+
+/// A small file system, which goes whatever comes.
+struct Small(PathBuf);
+
+impl Small {
+    /// So small that a book fills it.
+    fn mount(folder: PathBuf) -> Option<Small> {
+        let words = ["-t", "tmpfs", "-o", "size=16k", "tmpfs"];
+        let mounted = Command::new("mount").args(words).arg(&folder).stderr(Stdio::null()).status();
+        mounted.is_ok_and(|status| status.success()).then(|| Small(folder))
+    }
 }
 
-/// A limit of 8 blocks on files: less than a book.
-pub const FULL_DISK: &str = "trap '' XFSZ; ulimit -f 8; exec \"$@\"";
+impl Drop for Small {
+    fn drop(&mut self) {
+        let gone = Command::new("umount").arg(&self.0).status();
+        if !gone.is_ok_and(|status| status.success()) {
+            eprintln!("{} is still mounted", self.0.display());
+        }
+    }
+}
 
-fn folder_beside(stage: &Stage, example: &Example) -> Result<(), String> {
-    let folder = folder_with_book(stage.folder, "folder-beside", example).map_err(text)?;
-    fs::create_dir(folder.join("book.axb.new")).map_err(text)?;
-    let words = stage.programs.through_run("clerk");
-    let output = run(command(&words, &folder), &folder, &example.log, Feed::Pipe).map_err(text)?;
-    failed_whole(&output, &folder, example)?;
-    printed(&output, example)
+fn full_file_system(stage: &Stage, example: &Example) -> Ending {
+    let lacking = (!is_root()).then(|| "only root can mount one".to_string());
+    unless(lacking, || {
+        let folder = empty_folder(stage.folder, "small")?;
+        let Some(small) = Small::mount(folder) else {
+            return Ok(Ending::LeftOut("none can be mounted".to_string()));
+        };
+        fs::write(small.0.join("book.axb"), &example.book).map_err(text)?;
+        run_without_room(stage.clerk(&small.0), &small.0, example).map(|()| Ending::PASSED)
+    })
 }
 
 /// Nothing can be printed: then nothing may be written, and a refusal that nobody reads is no success.
 fn full_output(stage: &Stage, example: &Example, is_good: bool) -> Result<(), String> {
-    let folder = folder_with_book(stage.folder, "full-output", example).map_err(text)?;
+    let folder = example.folder(stage.folder, "full-output")?;
     let full = OpenOptions::new().write(true).open("/dev/full").map_err(text)?;
-    let words = stage.programs.through_run("clerk");
-    let mut command = command(&words, &folder);
+    let mut command = stage.clerk(&folder);
     command.stdout(full).stderr(Stdio::piped());
     let log = if is_good { &example.log[..] } else { &example.log[..30] };
     let output = run_as_set(&mut command, &folder, log, Feed::Pipe).map_err(text)?;
-    failed_whole(&output, &folder, example)?;
-    nothing_beside(&folder)
+    failed_whole(&output, &folder, example)
 }
 
 fn closed_output(stage: &Stage, example: &Example) -> Result<(), String> {
-    let folder = folder_with_book(stage.folder, "closed-output", example).map_err(text)?;
-    let output =
-        run(through_shell(stage, &folder, "exec \"$@\" >&-"), &folder, &example.log, Feed::Pipe).map_err(text)?;
-    failed_whole(&output, &folder, example)?;
-    nothing_beside(&folder)
+    let folder = example.folder(stage.folder, "closed-output")?;
+    let command = through_shell(stage, &folder, "exec \"$@\" >&-");
+    let output = run(command, &folder, &example.log, Feed::Pipe).map_err(text)?;
+    failed_whole(&output, &folder, example)
 }
 
-/// A stop between writing and renaming leaves a file beside the book; the next run must not stumble over it.
+fn unread_output(stage: &Stage, example: &Example) -> Result<(), String> {
+    let folder = example.folder(stage.folder, "unread-output")?;
+    let (first, rest) = example.halves();
+    let mut clerk = Waiting::begin(stage.clerk(&folder), first).map_err(text)?;
+    clerk.stop_reading();
+    failed_whole(&clerk.go_on(rest).map_err(text)?, &folder, example)
+}
+
+/// A stop between writing and renaming leaves a file beside the book, which the next run takes away.
 fn left_over(stage: &Stage, example: &Example) -> Result<(), String> {
-    let folder = folder_with_book(stage.folder, "left-over", example).map_err(text)?;
-    fs::write(folder.join("book.axb.new"), vec![7; 30_000]).map_err(text)?;
+    let folder = example.folder(stage.folder, "left-over")?;
+    fs::write(folder.join("book.axb.new.abcdef"), vec![7; 30_000]).map_err(text)?;
     run_well(stage, &folder, example)
 }
 
@@ -175,16 +142,25 @@ fn second_try(stage: &Stage, example: &Example) -> Result<(), String> {
     run_well(stage, &stage.folder.join("full-disk"), example)
 }
 
-fn run_well(stage: &Stage, folder: &Path, example: &Example) -> Result<(), String> {
-    let words = stage.programs.through_run("clerk");
-    let output = run(command(&words, folder), folder, &example.log, Feed::Pipe).map_err(text)?;
-    printed(&output, example)?;
-    let after = build::book(1, 20240305, &[build::Total { group: 3, kind: 1, family: 0, total: 2 }]);
-    same_file(&folder.join("book.axb"), Some(&after))?;
-    nothing_beside(folder)?;
-    if output.status.success() {
-        Ok(())
-    } else {
-        Err(output.status.to_string())
+/// The new book is for the same readers as the old one. Only root can give it to another owner.
+fn kept_mode(stage: &Stage, example: &Example) -> Result<(), String> {
+    let folder = example.folder(stage.folder, "kept-mode")?;
+    let book = folder.join("book.axb");
+    let facts = || fs::metadata(&book).map(|file| (file.mode(), file.uid(), file.gid())).map_err(text);
+    fs::set_permissions(&book, fs::Permissions::from_mode(0o640)).map_err(text)?;
+    if is_root() {
+        chown(&book, Some(NOBODY), Some(NOBODY)).map_err(text)?;
     }
+    let before = facts()?;
+    run_well(stage, &folder, example)?;
+    let after = facts()?;
+    if before == after {
+        return Ok(());
+    }
+    Err(format!("mode, owner and group were {before:?} and are {after:?}"))
+}
+
+fn run_well(stage: &Stage, folder: &Path, example: &Example) -> Result<(), String> {
+    let output = run(stage.clerk(folder), folder, &example.log, Feed::Pipe).map_err(text)?;
+    example.is_done(&output, folder)
 }

@@ -3,8 +3,10 @@
 //! The reading: `dates`, `rules`, `tables`, `book`, `refusal`, `calls` (the six calls), `clerk`, `replay`.
 //! The cases: `build` (data and its bytes), `days`, `scene` and `faults`; `edges`, `script_edges`, `clerk_edges`,
 //! `generate` (random ones), `large` (a million records); `years`, in which `join` joins two groups (demand 3).
-//! The check: `run` (with a time limit), `parallel`, `compare`, `tally` (what was reached), `join_years`, `failing`
-//! (the write-back made to fail) with `permissions`, `newbook`, `check`; `timing`.
+//! The check: `run` (with a time limit), `parallel`, `compare`, `tally` (what was reached), `join_years`, `check`.
+//! Around a day: `ending` (passed, failed or left out), `stage` (an example in a folder), `failing` (the write-back
+//! made to fail), `permissions`, `newbook`, `unusable` (books and streams), `races` (two clerks at once), `starting`
+//! (`bin/run`), `signals`, `installed` (`bin/install`), `system_faults` (by strace). And `timing`.
 mod book;
 mod build;
 mod calls;
@@ -16,15 +18,18 @@ mod compare;
 mod dates;
 mod days;
 mod edges;
+mod ending;
 mod failing;
 mod faults;
 mod generate;
+mod installed;
 mod join;
 mod join_years;
 mod large;
 mod newbook;
 mod parallel;
 mod permissions;
+mod races;
 mod random;
 mod refusal;
 mod replay;
@@ -32,9 +37,14 @@ mod rules;
 mod run;
 mod scene;
 mod script_edges;
+mod signals;
+mod stage;
+mod starting;
+mod system_faults;
 mod tables;
 mod tally;
 mod timing;
+mod unusable;
 mod years;
 
 use std::io::{self, Read, Write};

@@ -3,11 +3,12 @@ use crate::book;
 use crate::build::{self, Total};
 use crate::cases::Feed;
 use crate::compare::same_file;
-use crate::failing::{shell_words, text, Stage, FULL_DISK};
+use crate::failing::FULL_DISK;
 use crate::permissions::held_by_permissions;
-use crate::run::{command, run};
+use crate::run::{command, run, shell_words};
+use crate::stage::{empty_folder, said, text, Stage};
 use std::fs;
-use std::path::{Path, PathBuf};
+use std::path::Path;
 use std::process::Output;
 
 /// What is not the one word 1 or 2; 257 and the two long ones are 1 when cut to 8, 32 and 64 bits.
@@ -43,14 +44,6 @@ pub fn newbook(stage: &Stage) -> Vec<(String, Result<(), String>)> {
     all
 }
 
-/// An empty folder.
-fn empty_folder(parent: &Path) -> Result<PathBuf, String> {
-    let folder = parent.join("newbook");
-    let _ = fs::remove_dir_all(&folder);
-    fs::create_dir_all(&folder).map_err(text)?;
-    Ok(folder)
-}
-
 fn start(stage: &Stage, folder: &Path, more: &[&str]) -> Result<Output, String> {
     let words = stage.programs.words(&stage.programs.newbook);
     let mut command = command(&words, folder);
@@ -65,20 +58,8 @@ fn status(stage: &Stage, folder: &Path, more: &[&str]) -> Result<bool, String> {
     Ok(run(command, folder, &[], Feed::Pipe).map_err(text)?.status.success())
 }
 
-/// One line on standard error, and nothing printed as if it were done.
-fn said(output: &Output) -> Result<(), String> {
-    let error = String::from_utf8_lossy(&output.stderr);
-    if error.trim().is_empty() || !error.ends_with('\n') || error.lines().count() != 1 {
-        return Err(format!("standard error is {error:?}"));
-    }
-    if !output.stdout.is_empty() {
-        return Err(format!("it printed {:?}", String::from_utf8_lossy(&output.stdout)));
-    }
-    Ok(())
-}
-
 /// The names in the folder are these.
-fn holds(folder: &Path, names: &[&str]) -> Result<(), String> {
+pub fn holds(folder: &Path, names: &[&str]) -> Result<(), String> {
     let entries: Result<Vec<_>, _> = fs::read_dir(folder).map_err(text)?.collect();
     let found: Vec<_> = entries.map_err(text)?.iter().map(|entry| entry.file_name()).collect();
     if found == names {
@@ -90,14 +71,14 @@ fn holds(folder: &Path, names: &[&str]) -> Result<(), String> {
 fn makes(stage: &Stage, rulebook: u8) -> Result<(), String> {
     let mut fresh = vec![0; book::LENGTH];
     book::make_fresh(&mut fresh, rulebook);
-    let folder = empty_folder(stage.folder)?;
+    let folder = empty_folder(stage.folder, "newbook")?;
     let output = start(stage, &folder, &[&rulebook.to_string()])?;
     if !output.stderr.is_empty() {
         return Err(format!("standard error is {:?}", String::from_utf8_lossy(&output.stderr)));
     }
     same_file(&folder.join("book.axb"), Some(&fresh))?;
     holds(&folder, &["book.axb"])?;
-    let folder = empty_folder(stage.folder)?;
+    let folder = empty_folder(stage.folder, "newbook")?;
     if !status(stage, &folder, &[&rulebook.to_string()])? {
         return Err("the exit status is not 0".to_string());
     }
@@ -109,7 +90,7 @@ fn leaves_a_book(stage: &Stage, rulebook: u8) -> Result<(), String> {
     let total = Total { group: 3, kind: 1, family: 0, total: 2 };
     let short = vec![7; 100];
     for bytes in [build::book(1, 20240305, &[total]), build::book(2, 0, &[]), short, Vec::new()] {
-        let folder = empty_folder(stage.folder)?;
+        let folder = empty_folder(stage.folder, "newbook")?;
         fs::write(folder.join("book.axb"), &bytes).map_err(text)?;
         said(&start(stage, &folder, &[&rulebook.to_string()])?)?;
         same_file(&folder.join("book.axb"), Some(&bytes))?;
@@ -119,7 +100,7 @@ fn leaves_a_book(stage: &Stage, rulebook: u8) -> Result<(), String> {
 }
 
 fn refuses(stage: &Stage, words: &[&str]) -> Result<(), String> {
-    let folder = empty_folder(stage.folder)?;
+    let folder = empty_folder(stage.folder, "newbook")?;
     said(&start(stage, &folder, words)?)?;
     if status(stage, &folder, words)? {
         return Err("the exit status is 0".to_string());
@@ -129,24 +110,25 @@ fn refuses(stage: &Stage, words: &[&str]) -> Result<(), String> {
 
 fn no_permission(stage: &Stage) -> Result<(), String> {
     let held = held_by_permissions(stage, "newbook", &stage.programs.newbook)?;
-    let folder = empty_folder(&held.parent)?;
+    let folder = empty_folder(&held.parent, "newbook")?;
     let output = held.run_unwritable(&folder, &["1"], &[])?;
     let result = said(&output).and(holds(&folder, &[]));
     held.clear(stage)?;
     result
 }
 
-/// Half a book is worse than none.
+/// Half a book is worse than none. Without `bin/run` the signal of the limit would end the program.
 fn full_disk(stage: &Stage) -> Result<(), String> {
-    let folder = empty_folder(stage.folder)?;
-    let mut words = shell_words(FULL_DISK, stage.programs.words(&stage.programs.newbook));
+    let folder = empty_folder(stage.folder, "newbook")?;
+    let line = format!("trap '' XFSZ; {FULL_DISK}");
+    let mut words = shell_words(&line, stage.programs.words(&stage.programs.newbook));
     words.push("1".to_string());
     said(&run(command(&words, &folder), &folder, &[], Feed::Pipe).map_err(text)?)?;
     holds(&folder, &[])
 }
 
 fn over_a_folder(stage: &Stage) -> Result<(), String> {
-    let folder = empty_folder(stage.folder)?;
+    let folder = empty_folder(stage.folder, "newbook")?;
     fs::create_dir(folder.join("book.axb")).map_err(text)?;
     said(&start(stage, &folder, &["1"])?)?;
     holds(&folder, &["book.axb"])?;

@@ -4,7 +4,7 @@ use std::fs::{self, File};
 use std::io::{self, Read, Write};
 use std::os::unix::process::CommandExt;
 use std::path::{Path, PathBuf};
-use std::process::{Child, Command, Output, Stdio};
+use std::process::{Child, ChildStdin, Command, Output, Stdio};
 use std::sync::atomic::{AtomicUsize, Ordering};
 use std::sync::mpsc::{self, Receiver};
 use std::thread;
@@ -59,6 +59,13 @@ pub fn command(words: &[String], folder: &Path) -> Command {
     command
 }
 
+/// A line of shell around the words of a program, which it has as "$@".
+pub fn shell_words(line: &str, program: Vec<String>) -> Vec<String> {
+    let mut words: Vec<String> = ["/bin/sh", "-c", line, "sh"].map(String::from).into();
+    words.extend(program);
+    words
+}
+
 /// Runs it on the input. The program may stop reading before the input is over.
 pub fn run(mut command: Command, folder: &Path, input: &[u8], feed: Feed) -> io::Result<Output> {
     command.stdout(Stdio::piped()).stderr(Stdio::piped());
@@ -75,7 +82,12 @@ pub fn run_as_set(command: &mut Command, folder: &Path, input: &[u8], feed: Feed
         return output;
     }
     let mut child = start(command.stdin(Stdio::piped()))?;
-    let mut pipe = child.stdin.take().unwrap();
+    pour(child.stdin.take().unwrap(), input, feed);
+    finish(child)
+}
+
+/// All of the input into the pipe, aside, and then the pipe is closed.
+fn pour(mut pipe: ChildStdin, input: &[u8], feed: Feed) {
     let input = input.to_vec();
     thread::spawn(move || {
         for piece in pieces(&input, feed) {
@@ -84,7 +96,52 @@ pub fn run_as_set(command: &mut Command, folder: &Path, input: &[u8], feed: Feed
             }
         }
     });
-    finish(child)
+}
+
+/// A program that has the first part of its input and waits for the rest.
+pub struct Waiting {
+    child: Child,
+    pipe: ChildStdin,
+}
+
+impl Waiting {
+    /// Starts it, and is back when all of the first part has gone into the pipe.
+    pub fn begin(mut command: Command, first: &[u8]) -> io::Result<Waiting> {
+        command.stdin(Stdio::piped()).stdout(Stdio::piped()).stderr(Stdio::piped());
+        let mut child = start(&mut command)?;
+        let mut pipe = child.stdin.take().unwrap();
+        let first = first.to_vec();
+        let (sender, receiver) = mpsc::channel();
+        thread::spawn(move || {
+            // nobody listens any more where the time was up
+            let _ = sender.send(pipe.write_all(&first).map(|()| pipe));
+        });
+        match receiver.recv_timeout(LIMIT) {
+            Ok(pipe) => Ok(Waiting { child, pipe: pipe? }),
+            Err(_) => Err(give_up(&mut child)),
+        }
+    }
+
+    pub fn id(&self) -> u32 {
+        self.child.id()
+    }
+
+    /// From now on nobody reads what it prints.
+    pub fn stop_reading(&mut self) {
+        drop(self.child.stdout.take());
+    }
+
+    pub fn go_on(self, rest: &[u8]) -> io::Result<Output> {
+        pour(self.pipe, rest, Feed::Pipe);
+        finish(self.child)
+    }
+
+    /// Waits for its end, for which it must not need the rest.
+    pub fn end(self) -> io::Result<Output> {
+        let output = finish(self.child);
+        drop(self.pipe);
+        output
+    }
 }
 
 /// Runs it on the standard input that it has.
@@ -103,11 +160,15 @@ fn start(command: &mut Command) -> io::Result<Child> {
 fn finish(mut child: Child) -> io::Result<Output> {
     match output_before(&mut child, Instant::now() + LIMIT)? {
         Some(output) => Ok(output),
-        None => {
-            HANGS.fetch_add(1, Ordering::Relaxed);
-            stop(&mut child)?;
-            Err(io::Error::other(format!("it hangs: stopped after {} s", LIMIT.as_secs())))
-        }
+        None => Err(give_up(&mut child)),
+    }
+}
+
+fn give_up(child: &mut Child) -> io::Error {
+    HANGS.fetch_add(1, Ordering::Relaxed);
+    match stop(child) {
+        Ok(()) => io::Error::other(format!("it hangs: stopped after {} s", LIMIT.as_secs())),
+        Err(error) => error,
     }
 }
 
@@ -143,9 +204,13 @@ fn gather(pipe: Option<impl Read + Send + 'static>) -> Receiver<io::Result<Vec<u
 
 /// Ends the child and what it started itself, which is in its group.
 fn stop(child: &mut Child) -> io::Result<()> {
-    let group = format!("-{}", child.id());
-    Command::new("/bin/sh").args(["-c", "kill -s KILL -- \"$0\"", &group]).status()?;
+    send("KILL", &format!("-{}", child.id()))?;
     child.wait().map(drop)
+}
+
+/// Sends a signal to a process, or to a group, whose number has a minus before it.
+pub fn send(signal: &str, to: &str) -> io::Result<()> {
+    Command::new("/bin/sh").args(["-c", "kill -s \"$0\" -- \"$1\"", signal, to]).status().map(drop)
 }
 
 fn pieces(input: &[u8], feed: Feed) -> Box<dyn Iterator<Item = &[u8]> + '_> {

@@ -17,11 +17,7 @@ pub(crate) const FILE: usize = MOST_BOOK + 1;
 pub(crate) fn read_book(book: &mut [u8]) -> usize
     ensures { λ r. ⌜ r ≤ length (now (book .exit)) ⌝ }
 {
-    read_plain(
-        b"book.axb",
-        book,
-        b"clerk: book.axb cannot be read and counts as empty",
-    )
+    read_plain(b"book.axb", book, b"clerk: book.axb cannot be read")
 }
 
 // Makes the new book ready in a file of this clerk's own, beside the book: `name` ends in XXXXXX, which is made up. It
@@ -86,10 +82,13 @@ fn look_again(old: &[u8], new: &[u8]) {
     say(b"clerk: book.axb is neither the book as it was nor the new one\n");
 }
 
-// Puts the file that was made ready in the book's place, if the book is still what the day was judged on.
+// Puts the file that was made ready in the book's place, if the book is still what the day was judged on. A last look
+// tells whether another's rename followed in the same moment, from a clerk that had looked before this one's.
 pub(crate) fn replace(name: &[u8], old: &[u8], new: &[u8]) {
     if !holds(old) {
-        say(b"clerk: book.axb was changed meanwhile: it is left as it is, without this day\n");
+        say(
+            b"clerk: book.axb is not what this day was judged on: it is left as it is, without this day\n",
+        );
         os::unlink(name);
         return;
     }
@@ -100,4 +99,9 @@ pub(crate) fn replace(name: &[u8], old: &[u8], new: &[u8]) {
         return;
     }
     see_folder();
+    if !holds(new) {
+        say(
+            b"clerk: book.axb is not this day's book: another wrote it in the same moment, run the day again\n",
+        );
+    }
 }

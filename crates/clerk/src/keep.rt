@@ -100,8 +100,6 @@ pub(crate) fn replace(name: &[u8], old: &[u8], new: &[u8]) {
     }
     see_folder();
     if !holds(new) {
-        say(
-            b"clerk: book.axb is not this day's book: another wrote it in the same moment, run the day again\n",
-        );
+        say(b"clerk: book.axb is not this day's book when looked at again: run the day again\n");
     }
 }

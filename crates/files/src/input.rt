@@ -59,8 +59,8 @@ pub fn fill(fd: i32, buf: &mut [u8]) -> Got
     }
 }
 
-// Whether there is a plain file of that name. Where there is something else, or the system does not tell, the words are
-// said, and why.
+// Whether there is a plain file of that name. Where there is something else, or the system does not tell, the words
+// are said, and why.
 fn is_plain(path: &[u8], words: &[u8]) -> bool {
     let mode = known_of(path).mode;
     if mode == 0 {

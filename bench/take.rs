@@ -109,9 +109,9 @@ fn record_good(rulebook: u8, r: &[u8]) -> bool {
             || r[0] == 2 && u32_at(r, 8) == 0 && r[18] == 0 && r[19] == 0)
 }
 
-fn exempt(rulebook: u8, kind: u8, instruction: u8, purpose: u8) -> bool {
+fn exempt(rulebook: u8, sort: u8, kind: u8, instruction: u8, purpose: u8) -> bool {
     if rulebook == 1 {
-        instruction >= 2 || purpose == 2 || purpose == 3 || purpose == 4 && kind == 2
+        instruction >= 2 || purpose == 2 || purpose == 3 || purpose == 4 && kind == 2 && sort == 2
     } else {
         instruction == 2
             || instruction == 1 && kind == 2
@@ -165,17 +165,19 @@ fn take(day: &mut Day, log: &[u8], r: &[u8], counts: &mut [u32]) -> u32 {
         return 13;
     };
     let cell = (first[4] as usize - 1) * 96 + place;
+    let contract = &log[16 + 8 * place..24 + 8 * place];
+    let spared = |kind, order: usize| exempt(rulebook, contract[2], kind, r[order], r[order + 1]);
     let mut raise = [false; 3];
     if r[0] == 1 {
         let Some(second) = find(accounts, u32_at(r, 8)) else {
             return 13;
         };
-        raise[0] = first[4] == second[4] && !exempt(rulebook, 1, r[16], r[17]) && !exempt(rulebook, 1, r[18], r[19]);
+        raise[0] = first[4] == second[4] && !spared(1, 16) && !spared(1, 18);
     } else {
-        let (five, four) = (5 * u32_at(r, 12) as u64, 4 * u32_at(log, 16 + 8 * place + 4) as u64);
+        let (five, four) = (5 * u32_at(r, 12) as u64, 4 * u32_at(contract, 4) as u64);
         let large = if rulebook == 1 { five > four } else { five >= four };
-        raise[1] = !exempt(rulebook, 2, r[16], r[17]);
-        raise[2] = large && !exempt(rulebook, 3, r[16], r[17]);
+        raise[1] = !spared(2, 16);
+        raise[2] = large && !spared(3, 16);
     }
     if day.taken >= 1_000_000 {
         return 14;

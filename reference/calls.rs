@@ -111,7 +111,7 @@ fn cells_raised(tables: &Tables, record: &Record, contract: Contract) -> Result<
     let first = tables.account(record.first).ok_or(Refusal::NoAccount)?;
     let counts_for = |kind, order: usize| {
         let (instruction, purpose) = record.orders[order];
-        !rules::is_exempt(rulebook, kind, instruction, purpose)
+        !rules::is_exempt(rulebook, contract.contract_type, kind, instruction, purpose)
     };
     let at = |kind| cell(first.group as usize, kind, contract.place);
     if record.is_trade {

@@ -90,6 +90,8 @@ fn run_joins(seed: u64, bench: &Bench, score: &mut Score) {
         ("an offence gained by the join", seen.days_gained),
         ("a trade between the two groups that counts", seen.between),
         ("a trade between the two groups that is exempt", seen.exempt_between),
+        ("a market maker's cancel in futures of rulebook 1", seen.made_in_futures),
+        ("a market maker's cancel in options of rulebook 1", seen.made_in_options),
         ("a restriction lost by counting sanction 3 alone", seen.lost.len()),
     ];
     for (what, times) in needed {
@@ -108,6 +110,7 @@ fn print_seen(seen: &Seen) {
         seen.with_restriction, seen.past_third
     );
     println!("{} trades between the two count when joined, {} are exempt", seen.between, seen.exempt_between);
+    println!("{} market making cancels in DCE futures, {} in options", seen.made_in_futures, seen.made_in_options);
     println!("{} days gained an offence by the join", seen.days_gained);
     println!("{} years would lose a restriction if sanction 3 alone were one", seen.lost.len());
     if let Some((i, example)) = seen.lost.first() {

@@ -24,6 +24,7 @@ pub fn edges(random: &mut Random) -> Vec<Case> {
     all.extend(rungs());
     all.extend(four_fifths());
     all.extend(exemptions());
+    all.extend(market_makers());
     all.extend(full_sizes());
     all.extend(changed_tables(random));
     all
@@ -132,11 +133,13 @@ fn accepted_takes() -> Vec<Change> {
         s.set_record(12, &700u32.to_le_bytes());
         s.cells.push((scene_cell(3), u32::MAX));
     }));
-    // market making is spared for kind 2 only: kind 3 is raised past a changed cell of kind 2
+    // market making is spared for kind 2 only, in rulebook 1 in options only: on the third contract, which there is an
+    // option, kind 3 is raised past a changed cell of kind 2
     all.push(Box::new(|s| {
         s.make_cancel();
+        s.set_record(2, &65_000u16.to_le_bytes());
         s.set_record(17, &[4]);
-        s.cells.push((scene_cell(2), u32::MAX));
+        s.cells.push((scene_cell(2) + 1, u32::MAX));
     }));
     all
 }
@@ -367,6 +370,32 @@ fn records_with(contract: u16, order: build::Order) -> [Vec<u8>; 4] {
     let trade = |orders| Record::Trade { contract, buyer: 11, seller: 12, lots: 1, orders }.bytes();
     let cancel = |lots| Record::Cancel { contract, account: 12, lots, order }.bytes();
     [trade([order, (5, 1)]), trade([(1, 1), order]), cancel(1), cancel(1_000)]
+}
+
+/// Cancels of market making by rulebook, contract type, lots of 1,000 and times. With no room for a finding, 20 tells
+/// that there is one: the numbers are document 02's, K1, and not the reference's.
+fn market_makers() -> Vec<Case> {
+    let rows = [
+        (1, 1, 1, 499, 0),
+        (1, 1, 1, 500, 20),
+        (1, 2, 1, 500, 0),
+        (1, 2, 1_000, 399, 0),
+        (1, 2, 1_000, 400, 20),
+        (2, 1, 1, 500, 0),
+        (2, 1, 1_000, 100, 20),
+    ];
+    let case = |(rulebook, contract_type, lots, times, number)| {
+        let day = small_day(rulebook, 20240305, &[(contract_type, 0)], &[(3, 1)]);
+        let instruction = if rulebook == 1 { 1 } else { 5 };
+        let mut script = taken_once(&day, &[]);
+        script.findings(7, 0);
+        let record = Record::Cancel { contract: 101, account: 11, lots, order: (instruction, 4) };
+        script.take_often(times, &record.bytes());
+        script.end(&build::end_record(times));
+        let name = format!("{times} of a market maker's cancels, type {contract_type}, rulebook {rulebook}");
+        replay_expecting(name, script, vec![0, 0, 0, number])
+    };
+    rows.map(case).into()
 }
 
 /// 32 contracts in 16 families, 512 accounts in 128 groups.

@@ -255,7 +255,17 @@ pub fn take_faults() -> Vec<Fault> {
             s.cells.push((scene_cell(kind), u32::MAX));
         }));
     }
+    all.push(fault(Refusal::CellsChanged, market_maker));
     all
+}
+
+/// In rulebook 1 market making in futures counts for kind 2; in rulebook 2 it does not, so there the purpose stays.
+fn market_maker(s: &mut Scene) {
+    s.make_cancel();
+    if s.rulebook() == 1 {
+        s.set_record(17, &[4]);
+    }
+    s.cells.push((scene_cell(2), u32::MAX));
 }
 
 pub fn end_faults() -> Vec<Fault> {

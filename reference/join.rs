@@ -1,7 +1,7 @@
 //! The join of two groups (demand 3): all accounts of group a are given b's number in every day's table. What it does
 //! to the bytes and to the counts, and what must hold between the year as it was and the joined one.
 use crate::book;
-use crate::build::{Day, Record};
+use crate::build::{Day, Order, Record};
 use crate::calls::{self, cell, Finding, State, CELLS};
 use crate::refusal::Refusal;
 use crate::rules::{self, FAMILIES, GROUPS, KINDS, PLACES};
@@ -54,10 +54,12 @@ pub fn trades_between(year: &Year, day: &Day) -> [[u32; PLACES]; 2] {
         let Record::Trade { contract, buyer, seller, orders, .. } = record else { continue };
         let groups = [group_of(*buyer), group_of(*seller)];
         let is_between = groups.contains(&Some(year.a)) && groups.contains(&Some(year.b));
-        let is_exempt = orders.iter().any(|order| rules::is_exempt(day.rulebook, 1, order.0, order.1));
         if is_between {
             let place = day.contracts.iter().position(|listed| listed.id == *contract);
-            between[is_exempt as usize][place.expect("the record's contract is in the tables")] += times;
+            let place = place.expect("the record's contract is in the tables");
+            let contract_type = day.contracts[place].contract_type;
+            let is_exempt = |order: &Order| rules::is_exempt(day.rulebook, contract_type, 1, order.0, order.1);
+            between[orders.iter().any(is_exempt) as usize][place] += times;
         }
     }
     between

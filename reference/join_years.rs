@@ -1,6 +1,6 @@
 //! Runs generated years twice through the programs, as they are and with two groups joined, and judges what they gave.
 use crate::book;
-use crate::build::{end_record, Day, Script};
+use crate::build::{end_record, Day, Record, Script};
 use crate::calls::{Finding, CELLS};
 use crate::cases::Feed;
 use crate::clerk;
@@ -33,6 +33,9 @@ pub struct Seen {
     /// Trades between the two groups that are self-trades when they are joined, and those that are exempt.
     pub between: usize,
     pub exempt_between: usize,
+    /// Cancels of market making in rulebook 1: in futures, where they count for kind 2, and in options.
+    pub made_in_futures: usize,
+    pub made_in_options: usize,
     pub lost: Vec<(usize, String)>,
 }
 
@@ -55,9 +58,24 @@ impl Seen {
                 trades_between(join.year, day).map(|by_place| by_place.iter().sum::<u32>() as usize);
             self.between += counted;
             self.exempt_between += exempt;
+            let [futures, options] = made_in(day);
+            self.made_in_futures += futures;
+            self.made_in_options += options;
         }
         self.lost.extend(join.lost_by_sanction_3().map(|example| (i, example)));
     }
+}
+
+/// Cancels of market making in futures and in options of rulebook 1.
+fn made_in(day: &Day) -> [usize; 2] {
+    let type_of = |id| day.contracts.iter().find(|contract| contract.id == id).map(|contract| contract.contract_type);
+    let mut made = [0; 2];
+    for (record, times) in day.records.iter().filter(|_| day.rulebook == 1) {
+        if let Record::Cancel { contract, order: (1, 4), .. } = record {
+            made[(type_of(*contract) == Some(2)) as usize] += *times as usize;
+        }
+    }
+    made
 }
 
 /// All years, several at a time.

@@ -1,4 +1,4 @@
-//! What the exchanges' texts say (document 01, "What counts" and "Ladders"), with no bytes.
+//! What the exchanges' texts say (document 01, "What counts" and "Ladders", as document 02 changes it), with no bytes.
 
 /// The number of contract and account entries, groups and so on that everything is laid out by.
 pub const GROUPS: usize = 128;
@@ -6,9 +6,11 @@ pub const KINDS: usize = 3;
 pub const FAMILIES: usize = 16;
 pub const PLACES: usize = 32;
 
-pub fn is_exempt(rulebook: u8, kind: usize, instruction: u8, purpose: u8) -> bool {
+/// Market making is spared for kind 2: in rulebook 1 in options only (K1), in rulebook 2 everywhere.
+pub fn is_exempt(rulebook: u8, contract_type: u8, kind: usize, instruction: u8, purpose: u8) -> bool {
     if rulebook == 1 {
-        (2..=6).contains(&instruction) || purpose == 2 || purpose == 3 || (purpose == 4 && kind == 2)
+        let is_spared_maker = purpose == 4 && kind == 2 && contract_type == 2;
+        (2..=6).contains(&instruction) || purpose == 2 || purpose == 3 || is_spared_maker
     } else {
         instruction == 2
             || (instruction == 1 && kind == 2)

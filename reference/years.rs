@@ -193,7 +193,12 @@ fn counted(random: &mut Random, rulebook: u8, accounts: &[u32], kind: usize, con
     let fast = if rulebook == 1 { 1 } else { random.pick(&[5, 6]) };
     match kind {
         1 => Record::Trade { contract: id, buyer: account, seller, lots, orders: [(1, 1), (fast, 4)] },
-        2 => Record::Cancel { contract: id, account, lots, order: (fast, 1) },
+        2 => {
+            // market making counts in futures of rulebook 1 alone
+            let is_dce_future = rulebook == 1 && contract.contract_type == 1;
+            let purpose = if is_dce_future { random.pick(&[1, 4]) } else { 1 };
+            Record::Cancel { contract: id, account, lots, order: (fast, purpose) }
+        }
         _ => {
             let order = random.pick(&[(1, 1), (1, 4), (fast, 1)]);
             Record::Cancel { contract: id, account, lots: contract.largest, order }

@@ -1,5 +1,5 @@
-// Runs document 01's cases and slips on the library's own functions and calls, and prints each with what came out. The
-// file `stdout` says what the document says.
+// Runs document 01's cases and slips, and document 02's, on the library's own functions and calls, and prints each with
+// what came out. The file `stdout` says what the documents say.
 mod build;
 mod dates;
 mod day;
@@ -40,6 +40,7 @@ fn calls(book: &mut [u8; 12304], counts: &mut [u32; 12288], findings: &mut [u8; 
     times::large_bonds(book, counts, findings);
     times::large(book, counts, findings);
     times::exempt_for_one(book, counts, findings);
+    times::market_making(book, counts, findings);
     families::futures_and_options(book, counts, findings);
     families::one_offence_a_day(book, counts, findings);
     year::next_year(book, counts, findings);

@@ -143,23 +143,21 @@ pub(crate) fn large(book: &mut [u8; 12304], counts: &mut [u32; 12288], findings:
     );
 }
 
-// Exempt for kind 2 and large: kind 3 counts it still.
-fn spared(
+// 500 large cancels on one contract: kind 3 counts them whether they are exempt for kind 2 or not.
+fn large_ones(
     rulebook: u8,
-    largest: u32,
-    lots: u32,
-    purpose: u8,
+    t: &[u8; 48],
+    row: &[u8; 20],
+    family: u64,
     book: &mut [u8; 12304],
     counts: &mut [u32; 12288],
     findings: &mut [u8; 49152],
 ) {
     desk::books::fresh(book, rulebook as u64);
-    let t = log(rulebook, 1, largest);
-    let row = cancel(101, lots, purpose);
-    let run = taken(opened(&t, book, counts), &t, &row, counts, 500);
-    say_found(b"findings", ended(run, &t, 500, book, counts, findings));
-    say::total(b"kind 2, total", book, 2, 0);
-    say::total(b"kind 3, total", book, 3, 0);
+    let run = taken(opened(t, book, counts), t, row, counts, 500);
+    say_found(b"findings", ended(run, t, 500, book, counts, findings));
+    say::total(b"kind 2, total", book, 2, family);
+    say::total(b"kind 3, total", book, 3, family);
 }
 
 pub(crate) fn exempt_for_one(
@@ -167,8 +165,23 @@ pub(crate) fn exempt_for_one(
     counts: &mut [u32; 12288],
     findings: &mut [u8; 49152],
 ) {
+    let t = log(2, 1, 50);
+    let row = cancel(101, 40, 1);
     say::text(b"rulebook 2, 500 plain limit cancels of 40 lots of 50:\n");
-    spared(2, 50, 40, 1, book, counts, findings);
-    say::text(b"rulebook 1, 500 market making cancels of 801 lots of 1000:\n");
-    spared(1, 1000, 801, 4, book, counts, findings);
+    large_ones(2, &t, &row, 0, book, counts, findings);
+}
+
+// Request K1: in rulebook 1 market making is exempt for kind 2 in options only.
+pub(crate) fn market_making(
+    book: &mut [u8; 12304],
+    counts: &mut [u32; 12288],
+    findings: &mut [u8; 49152],
+) {
+    let t = log(1, 2, 1000);
+    let on_futures = cancel(101, 801, 4);
+    say::text(b"rulebook 1, 500 market making cancels of 801 lots of 1000 on futures:\n");
+    large_ones(1, &t, &on_futures, 0, book, counts, findings);
+    let on_option = cancel(102, 801, 4);
+    say::text(b"rulebook 1, 500 market making cancels of 801 lots of 1000 on an option:\n");
+    large_ones(1, &t, &on_option, 1, book, counts, findings);
 }

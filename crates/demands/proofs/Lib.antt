@@ -25,6 +25,7 @@ pub mod Example
 pub mod Demand3
 pub mod SampleLaws
 pub mod Starred
+pub mod MarketMakers
 pub mod RuledSteps
 pub mod Worked
 pub mod WorkedYear

@@ -13,6 +13,7 @@ pub mod Demand3
 pub mod Samples
 pub mod Example
 pub mod Starred
+pub mod MarketMakers
 pub mod Worked
 pub mod WorkedYear
 pub mod Promised

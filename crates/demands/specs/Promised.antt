@@ -1,11 +1,12 @@
--- Every statement of demands 1 to 3, the starred table and the examples, as one record: a function of src/lib.rt has
--- it for its contract, so that a theorem that goes fails the gate.
+-- Every statement of demands 1 to 3, the two tables and the examples, as one record: a function of src/lib.rt has it
+-- for its contract, so that a theorem that goes fails the gate.
 use Rattle.demands.specs.Demand1.{AlwaysAnswered, OneAnswer, NumberNamed, ValuesNamed, RefusalKeeps}
 use Rattle.demands.specs.Demand2.{CallsRuled, CellsCounted, NeverChanged, NeverUnsound, FindingsListed}
 use Rattle.demands.specs.Demand2.{LowestId, BookOfDays, TotalsCounted, FreshIsBlank, BlankCarriesNothing}
 use Rattle.demands.specs.Demand2.{SanctionsFound, FindingsFound, LogsRuled, AlwaysRead, FileOfDays, LogsFound}
 use Rattle.demands.specs.Demand3.{NothingLost, NothingLostInLogs}
 use Rattle.demands.specs.Example.{WhyThreeOrFive}
+use Rattle.demands.specs.MarketMakers.{MarketMakers}
 use Rattle.demands.specs.Starred.{Starred}
 use Rattle.demands.specs.Worked.{Worked, Refusals}
 use Rattle.demands.specs.WorkedYear.{WorkedYear}
@@ -39,8 +40,9 @@ pub record Promised : Type 0 where
   pub nothing-lost : NothingLost
   pub nothing-lost-in-logs : NothingLostInLogs
   pub why-three-or-five : WhyThreeOrFive
-  -- the starred table, document 01's example, refusals between, and a small joined year
+  -- the starred table, the market makers', document 01's example, refusals between, and a small joined year
   pub starred-hold : Starred
+  pub market-makers : MarketMakers
   pub worked : Worked
   pub refusals : Refusals
   pub worked-year : WorkedYear

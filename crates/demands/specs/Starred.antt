@@ -18,19 +18,13 @@ use Rattle.daylog.specs.declared.record.Record.{Record}
 use Rattle.tables.specs.Tables.{Tables}
 use Rattle.counts.specs.Counting.{countsFor}
 use Rattle.demands.specs.Counts.{offence}
-use Rattle.demands.specs.Samples.{futures, plainTrade, bookWithOne}
+use Rattle.demands.specs.Samples.{futures, clientsDay, plainTrade, cancelOf, bookWithOne}
 
 -- ---- the days of the rows
 -- futures contracts 101, 102 and so on with one largest order, all of product 0 and so of family 0 in both rulebooks;
 -- accounts 11 and 12, clients of group 3
 unfoldable pub dayWith : (rulebook contracts largest : ℕ) → Tables
-dayWith rulebook contracts largest = record {
-  text = record { rulebook = rulebook };
-  contracts = contracts;
-  contract = λ place. futures (101 + place) largest;
-  accounts = 2;
-  account = λ place. record { number = 11 + place; group = 3; kind = 1; spare = 0 };
-}
+dayWith rulebook contracts largest = clientsDay rulebook contracts (λ place. futures (101 + place) largest)
 
 -- account 11 buys and account 12 sells
 unfoldable pub trade : Record
@@ -38,18 +32,7 @@ trade = plainTrade 11 12
 
 -- account 11 cancels an ordinary order of an amount in lots, with an instruction, on a contract
 unfoldable pub cancel : (contract amount instruction : ℕ) → Record
-cancel contract amount instruction = record {
-  sort = 2;
-  spare = 0;
-  contract = contract;
-  first = 11;
-  second = 0;
-  lots = lots amount;
-  instruction = instruction;
-  purpose = 1;
-  instruction2 = 0;
-  purpose2 = 0;
-}
+cancel contract amount instruction = cancelOf contract amount instruction 1
 
 abbrev pub plainLimit : ℕ
 plainLimit = 1

@@ -6,13 +6,13 @@ use crate::text::Text;
 ghost use mathlib.Core.Path.{_≡_};
 ghost use Rattle.rules.specs.Exemption.{exempt, spared1, spared2};
 
-fn is_spared1(kind: u8, instruction: u8, purpose: u8) -> bool
-    ensures { λ r. ⌜ r ≡ spared1 kind instruction purpose ⌝ }
+fn is_spared1(contract_type: u8, kind: u8, instruction: u8, purpose: u8) -> bool
+    ensures { λ r. ⌜ r ≡ spared1 «contract_type» kind instruction purpose ⌝ }
 {
     ((2 <= instruction) & (instruction <= 6))
         | (purpose == 2)
         | (purpose == 3)
-        | ((purpose == 4) & (kind == 2))
+        | ((purpose == 4) & (kind == 2) & (contract_type == 2))
 }
 
 fn is_spared2(kind: u8, instruction: u8, purpose: u8) -> bool
@@ -34,6 +34,6 @@ pub fn is_exempt(text: Text, contract_type: u8, kind: u8, instruction: u8, purpo
         & has_instruction(text, instruction)
         & has_purpose(text, purpose);
     !has
-        | ((text.rulebook == 1) & is_spared1(kind, instruction, purpose))
+        | ((text.rulebook == 1) & is_spared1(contract_type, kind, instruction, purpose))
         | ((text.rulebook == 2) & is_spared2(kind, instruction, purpose))
 }

@@ -6,6 +6,7 @@ use Rattle.demands.proofs.Demand2.{blank-carries-nothing, sanctions-fou
 use Rattle.demands.proofs.Demand2.{always-read, file-of-days, logs-found}
 use Rattle.demands.proofs.Demand3.{nothing-lost, nothing-lost-in-logs}
 use Rattle.demands.proofs.Example.{why-three-or-five}
+use Rattle.demands.proofs.MarketMakers.{market-makers}
 use Rattle.demands.proofs.Starred.{starred-hold}
 use Rattle.demands.proofs.Worked.{worked, refusals}
 use Rattle.demands.proofs.WorkedYear.{worked-year}
@@ -39,6 +40,7 @@ returns c = record {
   nothing-lost-in-logs = nothing-lost-in-logs;
   why-three-or-five = why-three-or-five;
   starred-hold = starred-hold;
+  market-makers = market-makers;
   worked = worked;
   refusals = refusals;
   worked-year = worked-year;

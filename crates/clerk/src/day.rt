@@ -15,7 +15,7 @@ ghost use lib.ListN.{length};
 // The type of the end record.
 const END: u8 = 3;
 
-// The bytes read at once: 3,276 whole records of 20 bytes, so that none straddles two pieces.
+// The bytes read at once: 3,276 whole records of 20 bytes or 2,730 of 24, so that none straddles two pieces.
 const PIECE: usize = 65520;
 
 // More turns than there are pieces: each takes a record or is the last, and the 1,000,001st record is refused.

@@ -1,4 +1,5 @@
 // One record judged against the tables: what it counts for, and where.
+use daylog::broker::brokers_wrong;
 use daylog::changed::tables_changed;
 use daylog::header::Header;
 use daylog::header::text_of;
@@ -101,6 +102,9 @@ pub fn weigh(head: Header, log: &[u8], row: &[u8]) -> Weighed
 {
     if tables_changed(head, log) {
         return Weighed::Refused(CHANGED);
+    }
+    if brokers_wrong(head.version, row) {
+        return Weighed::Refused(FIELDS);
     }
     let middle = 16 + 8 * (head.contracts as usize);
     weigh_in(

@@ -8,12 +8,12 @@ use lib.ListN.{length}
 use Rattle.rules.specs.Codes.{isRulebook}
 use Rattle.calendar.specs.Dates.{realDay}
 use Rattle.daylog.specs.declared.header.Header.{Header}
-use Rattle.daylog.specs.Header.{textOf, contractsPart, accountsPart}
+use Rattle.daylog.specs.Header.{isVersion, textOf, contractsPart, accountsPart}
 use Rattle.tables.specs.Contracts.{contractsGood}
 use Rattle.tables.specs.Accounts.{accountsGood}
 
 pub record GoodLog (h : Header) (log : List ℕ) : Type 0 where
-  pub version : h .version ≡ 1
+  pub version : isVersion (h .version) ≡ true
   pub known : isRulebook (h .rulebook) ≡ true
   pub date : realDay (h .date) ≡ true
   pub some-contracts : 1 ≤ h .contracts

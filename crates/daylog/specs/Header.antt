@@ -1,6 +1,6 @@
 -- 01, "Layouts": the header of 16 bytes; and "The calls and their refusals": opening's checks 1 to 8 in their order.
 use Prim.Native.Nat.{ℕ, _+_, _*_}
-use mathlib.Core.Bool.{Bool, _&&_, not}
+use mathlib.Core.Bool.{Bool, _&&_, _||_, not}
 use mathlib.Core.List.{List}
 use lib.Dec.{ltb, eqb}
 use lib.ListN.{length, getD, take, drop}
@@ -18,7 +18,7 @@ use Rattle.tables.specs.Tables.{Tables, tablesIn}
 abbrev pub logMarked : List ℕ → Bool
 logMarked log = eqb (getD log 0 0) 0x41 && eqb (getD log 1 0) 0x58 && eqb (getD log 2 0) 0x44
 
--- "3 rulebook; 4..5 version, 1; 6..9 date as yyyymmdd; 10..11 number of contracts C ..; 12..13 number of accounts A
+-- "3 rulebook; 4..5 version; 6..9 date as yyyymmdd; 10..11 number of contracts C ..; 12..13 number of accounts A
 -- ..; 14..15 zero"
 unfoldable pub headerOf : List ℕ → Header
 headerOf log = record {
@@ -29,6 +29,10 @@ headerOf log = record {
   accounts = le 2 log 12;
   spare = le 2 log 14;
 }
+
+-- 02, K2: "3 is any version but 1 and 2"
+abbrev pub isVersion : (version : ℕ) → Bool
+isVersion version = eqb version 1 || eqb version 2
 
 -- the text by which a day with this header is judged
 abbrev pub textOf : Header → Text
@@ -60,7 +64,7 @@ entriesFault h log =
 -- "2, 3, 4: mark, version, rulebook number"; "5, 6: date; C, A or bytes 14..15"
 unfoldable pub headFault : Header → List ℕ → ℕ
 headFault h log =
-    pick (not (eqb (h .version) 1)) 3
+    pick (not (isVersion (h .version))) 3
     (pick (not (isRulebook (h .rulebook))) 4
     (pick (not (realDay (h .date))) 5
     (pick (not (sizesGood h)) 6

@@ -1,3 +1,4 @@
+pub mod Brokers
 pub mod Records
 pub mod Header
 pub mod GoodLog

@@ -4,16 +4,17 @@ use mathlib.Core.Bool.{Bool, _&&_, _||_}
 use mathlib.Core.List.{List}
 use lib.Dec.{eqb}
 use lib.ListN.{getD}
-use Rattle.wire.specs.Choice.{within}
+use Rattle.wire.specs.Choice.{pick, within}
 use Rattle.wire.specs.Bytes.{le}
 use Rattle.rules.specs.declared.text.Text.{Text}
 use Rattle.rules.specs.Codes.{hasInstruction, hasPurpose}
 use Rattle.rules.specs.Measure.{lots}
 use Rattle.daylog.specs.declared.record.Record.{Record}
+use Rattle.daylog.specs.Brokers.{hasBrokers}
 
--- "Records of 20 bytes", in a log of a version
+-- "Records of 20 bytes"; 02, K2: "1 reads 24 for version 2 records". Any other version has those of version 1
 unfoldable pub recordLength : (version : ℕ) → ℕ
-recordLength version = 20
+recordLength version = pick (hasBrokers version) 24 20
 
 -- "0 type; 1 zero; 2..3 contract id; 4..7 first account; 8..11 second account; 12..15 lots ..; 16 instruction and 17
 -- purpose of the first order; 18 and 19 those of the second"
@@ -41,8 +42,9 @@ recordGood text r =
     && ((eqb (r .sort) 1 && orderGood text (r .instruction2) (r .purpose2))
     || (eqb (r .sort) 2 && (eqb (r .second) 0 && eqb (r .instruction2) 0 && eqb (r .purpose2) 0)))
 
--- "The end record has type 3, the number of records before it in 4..7, and all other bytes zero."
+-- "The end record has type 3, the number of records before it in 4..7, and all other bytes zero." 02, K2: "An end
+-- record has zero in 20..23", where version 1 has no bytes
 unfoldable pub endGood : List ℕ → Bool
 endGood row =
     eqb (getD row 0 0) 3 && eqb (getD row 1 0) 0 && eqb (le 2 row 2) 0
-    && eqb (le 4 row 8) 0 && eqb (le 4 row 12) 0 && eqb (le 4 row 16) 0
+    && eqb (le 4 row 8) 0 && eqb (le 4 row 12) 0 && eqb (le 4 row 16) 0 && eqb (le 4 row 20) 0

@@ -1,4 +1,5 @@
 // The header, and opening's checks 1 to 8 in their order.
+use crate::broker::WITH_BROKERS;
 use rules::text::Text;
 use rules::text::is_rulebook;
 use tables::accounts::accounts_good;
@@ -17,7 +18,8 @@ use wire::refusal::VERSION;
 ghost use mathlib.Core.Path.{_≡_};
 ghost use Prim.Native.Nat.{_+_, _*_, _≤_};
 ghost use lib.ListN.{length};
-ghost use Rattle.daylog.specs.Header.{headerOf, textOf, logMarked, sizesGood, entriesFault, headFault, logFault};
+ghost use Rattle.daylog.specs.Header.{headerOf, isVersion, textOf, logMarked, sizesGood};
+ghost use Rattle.daylog.specs.Header.{entriesFault, headFault, logFault};
 
 // The header's fields after the mark.
 pub struct Header {
@@ -58,6 +60,12 @@ fn mark_good(log: &[u8]) -> bool
     (get8(log, 0) == 0x41) & (get8(log, 1) == 0x58) & (get8(log, 2) == 0x44)
 }
 
+fn is_version(version: u16) -> bool
+    ensures { λ r. ⌜ r ≡ isVersion version ⌝ }
+{
+    (version == 1) | (version == WITH_BROKERS)
+}
+
 fn sizes_good(h: Header) -> bool
     ensures { λ r. ⌜ r ≡ sizesGood h ⌝ }
 {
@@ -89,7 +97,7 @@ fn head_fault(h: Header, log: &[u8]) -> u32
     requires { ⌜ 16 ≤ length (now log) ⌝ }
     ensures { λ r. ⌜ r ≡ headFault h (now (log .entry)) ⌝ }
 {
-    if h.version != 1 {
+    if !is_version(h.version) {
         return VERSION;
     }
     if !is_rulebook(h.rulebook as u64) {

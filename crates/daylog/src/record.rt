@@ -1,4 +1,5 @@
 // A record: its length, and the fields in it that stand by themselves; and the end record.
+use crate::broker::WITH_BROKERS;
 use rules::measure::Lots;
 use rules::text::Text;
 use wire::read::get8;
@@ -24,7 +25,7 @@ pub struct Record {
 pub fn record_length(version: u16) -> usize
     ensures { λ r. ⌜ r ≡ recordLength version ⌝ }
 {
-    20
+    if version == WITH_BROKERS { 24 } else { 20 }
 }
 
 // The fields of a record's bytes; a byte past the end counts as 0.
@@ -74,4 +75,5 @@ pub fn end_good(row: &[u8]) -> bool
         & (get32(row, 8) == 0)
         & (get32(row, 12) == 0)
         & (get32(row, 16) == 0)
+        & (get32(row, 20) == 0)
 }

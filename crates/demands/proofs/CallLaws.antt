@@ -24,7 +24,7 @@ use Rattle.desk.specs.declared.state.Answer.the-variants.{Done, Refused}
 use Rattle.desk.specs.declared.end.Ended.the-variants.{Done as EndDone, Refused as EndRefused}
 use Rattle.counts.specs.Cells.{raised}
 use Rattle.counts.specs.Counting.{fieldsFault}
-use Rattle.counts.specs.Weigh.{planIn}
+use Rattle.counts.specs.Weigh.{planIn, recordFault}
 use Rattle.desk.specs.Take.{takeFault, oneMore}
 use Rattle.desk.specs.Open.{kindsFor, openFault, handedFault, dayOf, zeroed}
 use Rattle.desk.specs.Abandon.{abandonAnswer}
@@ -38,6 +38,7 @@ use Rattle.demands.specs.Calls.{lend-gives, Ran, none, next, left}
 use Rattle.demands.specs.Paper.{Course, idle, during, Paper, Ruled, dayIn, takeNumber, endRefusal, freshBook}
 use Rattle.demands.specs.Paper.{openRuled, takeRuled, endRuled, rule, rules, paperAfter}
 use Rattle.demands.specs.Demand2.{Seen, seen, ruled, begun}
+use Rattle.demands.proofs.TableLaws.{fields-fine}
 use Rattle.demands.proofs.DayLaws.{Agrees, agrees-open, agrees-take, raised-room, zeroed-length, take-is}
 use Rattle.demands.proofs.DayLaws.{end-is, count-is, book-is, findings-are}
 
@@ -113,8 +114,9 @@ module _ (held log c book out : List ℕ) where
 pub no-record-fault : (log : List ℕ) (rs : List Record) (row : List ℕ) → takeNumber log rs row ≡ 0
     → fieldsFault (tablesOf log) (recordOf row) ≡ 0
 unfolding takeNumber
-no-record-fault log rs row e = or-none (fieldsFault (tablesOf log) (recordOf row)) _
-    (pick-zero _ 1 _ (lit< tt) e .1) .0
+no-record-fault log rs row e =
+    fields-fine _ (tablesOf log) row (or-none (recordFault (headerOf log .version) (tablesOf log) row) _
+    (pick-zero _ 1 _ (lit< tt) e .1) .0)
 
 module _ (log c book out : List ℕ) (rs : List Record) (row : List ℕ) (a : Agrees log rs c) where
   abbrev takeIs : ℕ

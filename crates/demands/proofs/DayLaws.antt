@@ -36,7 +36,7 @@ use Rattle.verdict.proofs.SameVerdict.{Same, same-count, same-findings, same-bo
 use Rattle.desk.specs.declared.state.State.the-variants.{Open}
 use Rattle.counts.specs.Counting.{planOf, countsFor, countsAs, fieldsFault}
 use Rattle.counts.specs.Cells.{cellFor, cellChanged, cellsChanged, planFault, raised}
-use Rattle.counts.specs.Weigh.{weighFault}
+use Rattle.counts.specs.Weigh.{recordFault, weighFault}
 use Rattle.desk.specs.Take.{sizesFault, heldFault, dayFault, takeFault}
 use Rattle.desk.specs.Open.{kindsFor, zeroed}
 use Rattle.desk.specs.Offences.{kindsOn, familyOf, reachedAt, lowest, lowestOn, verdictOn}
@@ -46,7 +46,7 @@ use Rattle.demands.specs.Counts.{howMany, timesOf, timesOn, dayVerdict}
 use Rattle.demands.specs.Paper.{dayIn, takeNumber, endRefusal}
 use Rattle.demands.proofs.CountLaws.{raised-length, raised-past, raised-at}
 use Rattle.demands.proofs.ManyLaws.{many-le}
-use Rattle.demands.proofs.TableLaws.{known-tables, has-record, placed, none-past}
+use Rattle.demands.proofs.TableLaws.{known-tables, fields-fine, has-record, placed, none-past}
 
 -- a book by its rulebook and its totals
 pub book-cong : (r r′ date : ℕ) (f g : ℕ → ℕ) → r ≡ r′ → ((l : ℕ) → l < ladders (kindsOf r) → f l ≡ g l)
@@ -212,17 +212,18 @@ module _ (log : List ℕ) (rs : List Record) (c : List ℕ) (a : Agrees log rs c
   plan-is r e = ap (pick (leb 1000000 (length rs)) 14) (sym (pick-no _ _ _ _ (cells-stand r e) refl))
 
   held-is : (row : List ℕ) → heldFault (dayIn log rs) log row (length c)
-      ≡ orElse (pick (short row) 1 0) (fieldsFault (tablesOf log) (recordOf row))
+      ≡ orElse (pick (short row) 1 0) (recordFault (headerOf log .version) (tablesOf log) row)
   unfolding heldFault weighFault
   held-is row = ap₂ orElse (sizes-is row) (or-else _ _ no-change)
 
   pub take-is : (row : List ℕ) → takeFault (Open (dayIn log rs)) log row c ≡ takeNumber log rs row
   unfolding takeFault dayFault takeNumber tablesOf tablesIn
   take-is row =
-      let fields = fieldsFault (tablesOf log) (recordOf row) in
+      let own = recordFault (headerOf log .version) (tablesOf log) row in
       let full = planFault kinds (length rs) (planOf (tablesOf log) (recordOf row)) c in
-      ap (λ (n : ℕ). orElse n full) (held-is row) ∙ or-assoc (pick (short row) 1 0) fields full
-      ∙ ap (orElse (pick (short row) 1 0)) (or-after fields _ _ (plan-is (recordOf row)))
+      ap (λ (n : ℕ). orElse n full) (held-is row) ∙ or-assoc (pick (short row) 1 0) own full
+      ∙ ap (orElse (pick (short row) 1 0))
+      (or-after own _ _ (λ e. plan-is (recordOf row) (fields-fine _ (tablesOf log) row e)))
       ∙ or-pick (short row) 1 _ (λ e. omega arith)
 
   -- ---- the times in the cells are those of the records

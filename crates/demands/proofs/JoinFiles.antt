@@ -1,13 +1,13 @@
 -- A whole file as the clerk reads it, with group a joined to group b in its tables: its tables are the file's,
 -- joined, and its rows are the file's. Assumes nothing.
 use mathlib.Core.Path.{_≡_, refl, sym, ap, ap₂, _∙_}
-use mathlib.Core.Bool.{Bool, true, false}
 use mathlib.Core.List.{List, [], _∷_}
 use Prim.Native.Nat.{ℕ, zero, suc, _+_, _*_, _≤_}
 use native.Mathlib.Omega.{arith}
 use lib.ListN.{length, take, drop, length-take, length-drop}
 use lib.Seq.{getD-take, getD-drop, ext-getD}
 use Rattle.wire.specs.Choice.{pick}
+use Rattle.wire.proofs.ChoiceLaws.{pick-least}
 use Rattle.daylog.specs.declared.header.Header.{Header}
 use Rattle.daylog.specs.Header.{headerOf, logFault}
 use Rattle.daylog.specs.Records.{recordLength}
@@ -17,11 +17,6 @@ use Rattle.demands.specs.Join.{joined, groupByte, byPlace, joinLog}
 use Rattle.demands.proofs.JoinTables.{header-same, join-length, past, header-stands}
 
 -- ---- the front of a file has its header
-pick-least : (t : Bool) (m a b : ℕ) → m ≤ a → m ≤ b → m ≤ pick t a b
-unfolding pick
-pick-least true m a b p q = p
-pick-least false m a b p q = q
-
 size-least : (log : List ℕ) → 16 ≤ frontSize log
 unfolding frontSize
 size-least log = pick-least _ 16 _ 16 (omega arith) (omega arith)

@@ -19,7 +19,9 @@ use Rattle.book.specs.Fits.{bookFault}
 use Rattle.daylog.specs.declared.header.Header.{Header}
 use Rattle.daylog.specs.declared.record.Record.{Record}
 use Rattle.daylog.specs.Header.{headerOf, logFault, tablesOf}
+use Rattle.daylog.specs.Brokers.{brokersWrong}
 use Rattle.daylog.specs.Records.{recordLength, recordOf}
+use Rattle.counts.specs.Weigh.{recordFault}
 use Rattle.verdict.specs.Settle.{shortFault}
 use Rattle.desk.specs.Books.{freshFault, askFault}
 use Rattle.desk.specs.Open.{kindsFor, fewFault, handedFault}
@@ -135,11 +137,12 @@ module _ (a b : ℕ) (two : Two a b) where
   -- taking: by the tables alone
   pub take-same : (log : List ℕ) (rs : List Record) (row : List ℕ) → logFault log ≡ 0
       → takeNumber (joinLog a b log) rs row ≡ takeNumber log rs row
-  unfolding takeNumber
+  unfolding takeNumber recordFault
   take-same log rs row e =
       let j = joined-log a b log (two .first-a) (two .last-a) (two .first-b) (two .last-b) in
       ap₂ (λ (x : Header) (n : ℕ).
-      pick (not (eqb (length row) (recordLength (x .version)))) 1 (orElse n (pick (leb 1000000 (length rs)) 14 0)))
+      pick (not (eqb (length row) (recordLength (x .version)))) 1
+      (orElse (pick (brokersWrong (x .version) row) 11 n) (pick (leb 1000000 (length rs)) 14 0)))
       (j .head)
       (fault-joined a b (tablesOf log) (tablesOf (joinLog a b log)) (j .tables e) (two .first-a) (two .differ)
       (recordOf row))

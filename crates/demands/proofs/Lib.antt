@@ -29,3 +29,6 @@ pub mod MarketMakers
 pub mod RuledSteps
 pub mod Worked
 pub mod WorkedYear
+pub mod SentLaws
+pub mod WhoeverSent
+pub mod SentExample

@@ -32,6 +32,7 @@ use Rattle.desk.specs.declared.end.Ended.the-variants.{Done, Refused}
 use Rattle.desk.specs.Answers.{numberOf}
 use Rattle.desk.specs.Books.{freshFault, askFault, askAnswer}
 use Rattle.counts.specs.Counting.{fieldsFault}
+use Rattle.counts.specs.Weigh.{recordFault}
 use Rattle.desk.specs.Open.{fewFault, handedFault}
 use Rattle.desk.specs.End.{endNumber, rowFault}
 use Rattle.demands.specs.Calls.{Step, makeBook, openDay, takeRecord, endDay, abandonDay, askBook, lendFindings}
@@ -96,6 +97,10 @@ fields-most t r =
     pick-le _ 11 _ 13 (omega arith) (pick-le _ 12 _ 13 (omega arith)
     (pick-le _ 13 _ 13 (omega arith) (pick-le _ 13 _ 13 (omega arith) (omega arith))))
 
+record-most : (version : ℕ) (t : Tables) (row : List ℕ) → recordFault version t row ≤ 13
+unfolding recordFault
+record-most version t row = pick-le _ 11 _ 13 (omega arith) (fields-most t (recordOf row))
+
 row-most : (day : Day) (row : List ℕ) → rowFault day row ≤ 15
 unfolding rowFault
 row-most day row = pick-le _ 11 _ 15 (omega arith) (pick-le _ 15 _ 15 (omega arith) (omega arith))
@@ -127,8 +132,8 @@ module _ (m : ℕ) (h : 16 < m) (book : List ℕ) (b : (rulebook date : ℕ) →
   unfolding takeNumber
   take-not log rs row =
       pick-not _ 1 _ m (λ e. omega arith)
-      (or-not (fieldsFault (tablesOf log) (recordOf row)) _ m
-      (λ e. omega (arith, fields-most (tablesOf log) (recordOf row)))
+      (or-not (recordFault (headerOf log .version) (tablesOf log) row) _ m
+      (λ e. omega (arith, record-most (headerOf log .version) (tablesOf log) row))
       (pick-not _ 14 _ m (λ e. omega arith) (λ e. omega arith)))
 
   end-not : (log : List ℕ) (rs : List Record) (row : List ℕ) (room : ℕ) → (m ≡ 20 → ⊥)

@@ -18,11 +18,13 @@ use Rattle.rules.proofs.KindLaws.{kinds-begin}
 use Rattle.daylog.specs.declared.record.Record.{Record}
 use Rattle.tables.specs.Accounts.{accountAt, numberBefore, accountGoodAt, accountsGood}
 use Rattle.daylog.specs.Header.{headerOf, accountsPart, logFault, tablesOf}
+use Rattle.daylog.specs.Records.{recordOf}
 use Rattle.tables.specs.Entries.{entries}
 use Rattle.tables.specs.Tables.{Tables, tablesIn, accountOf, contractOf, hasAccount, hasContract, groupOf}
 use Rattle.daylog.proofs.FaultLaws.{log-sound}
 use Rattle.places.specs.Places.{HasCell}
 use Rattle.counts.specs.Counting.{planFor, planOf, countsFor, countsAs, fieldsFault}
+use Rattle.counts.specs.Weigh.{recordFault}
 use Rattle.desk.specs.Offences.{kindsOn}
 
 pub record Known (t : Tables) : Type 0 where
@@ -56,6 +58,12 @@ known-tables log e =
 pub record Has (t : Tables) (r : Record) : Type 0 where
   pub contract : contractOf t (r .contract) < t .contracts
   pub account : accountOf t (r .first) < t .accounts
+
+-- where nothing is wrong with a record, nothing is wrong with its fields
+pub fields-fine : (version : ℕ) (t : Tables) (row : List ℕ) → recordFault version t row ≡ 0
+    → fieldsFault t (recordOf row) ≡ 0
+unfolding recordFault
+fields-fine version t row e = pick-zero _ 11 _ (lit< tt) e .1
 
 pub has-record : (t : Tables) (r : Record) → fieldsFault t r ≡ 0 → Has t r
 unfolding fieldsFault hasContract hasAccount

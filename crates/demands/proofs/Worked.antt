@@ -35,6 +35,7 @@ use Rattle.daylog.specs.declared.record.Record.{Record}
 use Rattle.tables.specs.Contracts.{contractAt, idBefore, contractsGood, contractPlace}
 use Rattle.tables.specs.Accounts.{accountAt, numberBefore, accountsGood, accountPlace, hasMember}
 use Rattle.daylog.specs.Header.{headerOf, entriesFault, headFault, logFault, tablesOf}
+use Rattle.daylog.specs.Brokers.{brokersWrong}
 use Rattle.daylog.specs.Records.{recordLength, recordOf, recordGood, endGood}
 use Rattle.daylog.specs.Rows.{rowSize}
 use Rattle.tables.specs.Tables.{Tables, tablesIn, accountOf, contractOf, hasAccount, hasContract, groupOf}
@@ -43,6 +44,7 @@ use Rattle.verdict.specs.Verdict.{Verdict, offends, foundCount, finding, totalA
 use Rattle.verdict.specs.Verdict.{bookAfter}
 use Rattle.verdict.specs.Settle.{shortFault}
 use Rattle.counts.specs.Counting.{planFor, planOf, countsAs, countsFor, fieldsFault}
+use Rattle.counts.specs.Weigh.{recordFault}
 use Rattle.desk.specs.Open.{handedFault}
 use Rattle.desk.specs.Offences.{familyOf, reachedAt, lowest, lowestOn, verdictOn}
 use Rattle.desk.specs.End.{rowFault}
@@ -94,8 +96,9 @@ trades-go : (book out : List ℕ) (len : ℕ)
     → Goes (paper (during workedTables []) book out len) workedTrades (0 ∷ 0 ∷ 0 ∷ 0 ∷ 0 ∷ []) (0 ∷ 0 ∷ 0 ∷ 0 ∷ 0 ∷ [])
     (paper (during workedTables workedRecords) book out len)
 unfolding workedTrades workedRecords workedTables tablesFor tradeOn numbersOn rules paperAfter rule takeRuled
-    takeNumber fieldsFault hasContract hasAccount contractOf accountOf contractPlace accountPlace recordLength
-    recordGood recordOf answered tablesOf tablesIn headerOf contractAt accountAt first le orElse pick
+    takeNumber recordFault brokersWrong fieldsFault hasContract hasAccount contractOf accountOf contractPlace
+    accountPlace recordLength recordGood recordOf answered tablesOf tablesIn headerOf contractAt accountAt first le
+    orElse pick
 trades-go book out len = record { numbers = refl; counts = refl; after = refl }
 
 -- ---- which ladders have an offence: that of group 3, kind 1, family 0 alone
@@ -209,7 +212,7 @@ book-good =
 
 -- ---- the day ended: 20 where the buffer has no room for the finding
 pub row-long : length (endRow 5) ≡ recordLength 1
-unfolding endRow recordLength
+unfolding endRow recordLength pick
 row-long = refl
 
 row-good : rowFault (dayIn workedTables workedRecords) (endRow 5) ≡ 0
@@ -290,9 +293,9 @@ no-book = refl
 
 day-open : (p : Paper) → numbersOn (justOpened p) openSteps ≡ 10 ∷ 1 ∷ 11 ∷ 12 ∷ 13 ∷ 0 ∷ 15 ∷ 0 ∷ 10 ∷ []
 unfolding justOpened openSteps workedTables tablesFor tradeOn endRow numbersOn rules rule takeRuled takeNumber
-    endRuled endRefusal rowFault endGood fieldsFault hasContract hasAccount contractOf accountOf contractPlace
-    accountPlace recordLength recordGood recordOf answered tablesOf tablesIn headerOf contractAt accountAt first le
-    orElse pick
+    endRuled endRefusal rowFault endGood recordFault brokersWrong fieldsFault hasContract hasAccount contractOf
+    accountOf contractPlace accountPlace recordLength recordGood recordOf answered tablesOf tablesIn headerOf
+    contractAt accountAt first le orElse pick
 day-open p = refl
 
 -- the trades with a record of type 3 between
@@ -302,8 +305,8 @@ trades-refused : (book out : List ℕ) (len : ℕ)
     ∷ takeRecord (tradeRow 11 12) ∷ takeRecord (tradeRow 11 12) ∷ takeRecord (tradeRow 12 12) ∷ [])
     (0 ∷ 0 ∷ 11 ∷ 0 ∷ 0 ∷ 0 ∷ []) (0 ∷ 0 ∷ 0 ∷ 0 ∷ 0 ∷ 0 ∷ []) (paper (during workedTables workedRecords) book out len)
 unfolding workedRecords workedTables tablesFor tradeOn endRow numbersOn rules paperAfter rule takeRuled takeNumber
-    fieldsFault hasContract hasAccount contractOf accountOf contractPlace accountPlace recordLength recordGood
-    recordOf answered tablesOf tablesIn headerOf contractAt accountAt first le orElse pick
+    recordFault brokersWrong fieldsFault hasContract hasAccount contractOf accountOf contractPlace accountPlace
+    recordLength recordGood recordOf answered tablesOf tablesIn headerOf contractAt accountAt first le orElse pick
 trades-refused book out len = record { numbers = refl; counts = refl; after = refl }
 
 lends : (p : Paper) (out : List ℕ)

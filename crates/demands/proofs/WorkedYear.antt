@@ -23,10 +23,12 @@ use Rattle.daylog.specs.declared.record.Record.{Record}
 use Rattle.tables.specs.Contracts.{contractAt, idBefore, contractsGood, contractPlace}
 use Rattle.tables.specs.Accounts.{accountAt, numberBefore, accountsGood, accountPlace}
 use Rattle.daylog.specs.Header.{headerOf, entriesFault, headFault, logFault, tablesOf}
+use Rattle.daylog.specs.Brokers.{brokersWrong}
 use Rattle.daylog.specs.Records.{recordLength, recordOf, recordGood, endGood}
 use Rattle.daylog.specs.Rows.{rowSize}
 use Rattle.tables.specs.Tables.{tablesIn, accountOf, contractOf, hasAccount, hasContract, groupOf}
 use Rattle.counts.specs.Counting.{planFor, planOf, countsAs, countsFor, fieldsFault}
+use Rattle.counts.specs.Weigh.{recordFault}
 use Rattle.desk.specs.Offences.{familyOf}
 use Rattle.desk.specs.End.{rowFault}
 use Rattle.demands.specs.Counts.{howMany, timesOf, reachesOn, offence}
@@ -118,9 +120,9 @@ module _ (g : ℕ) where
       → DayGood (yearTables 2 g) firstTrades (0 ∷ 0 ∷ 0 ∷ 0 ∷ 12 ∷ 0 ∷ []) (0 ∷ 0 ∷ 0 ∷ 0 ∷ 0 ∷ 0 ∷ [])
       firstRecords 20240102
   unfolding firstTrades firstRecords yearTables tablesFor tradeOn endRow numbersOn rules paperAfter rule takeRuled
-      takeNumber fieldsFault hasContract hasAccount contractOf accountOf contractPlace accountPlace recordLength
-      recordGood recordOf answered tablesOf tablesIn headerOf contractAt accountAt rowFault endGood first le orElse
-      pick
+      takeNumber recordFault brokersWrong fieldsFault hasContract hasAccount contractOf accountOf contractPlace
+      accountPlace recordLength recordGood recordOf answered tablesOf tablesIn headerOf contractAt accountAt rowFault
+      endGood first le orElse pick
   first-day e =
       record {
         good = e;
@@ -134,9 +136,9 @@ module _ (g : ℕ) where
   second-day : logFault (yearTables 3 g) ≡ 0
       → DayGood (yearTables 3 g) secondTrades (0 ∷ 0 ∷ 0 ∷ 0 ∷ 0 ∷ []) (0 ∷ 0 ∷ 0 ∷ 0 ∷ 0 ∷ []) secondRecords 20240103
   unfolding secondTrades secondRecords yearTables tablesFor tradeOn endRow numbersOn rules paperAfter rule takeRuled
-      takeNumber fieldsFault hasContract hasAccount contractOf accountOf contractPlace accountPlace recordLength
-      recordGood recordOf answered tablesOf tablesIn headerOf contractAt accountAt rowFault endGood first le orElse
-      pick
+      takeNumber recordFault brokersWrong fieldsFault hasContract hasAccount contractOf accountOf contractPlace
+      accountPlace recordLength recordGood recordOf answered tablesOf tablesIn headerOf contractAt accountAt rowFault
+      endGood first le orElse pick
   second-day e =
       record {
         good = e;

@@ -16,4 +16,6 @@ pub mod Starred
 pub mod MarketMakers
 pub mod Worked
 pub mod WorkedYear
+pub mod WhoeverSent
+pub mod SentExample
 pub mod Promised

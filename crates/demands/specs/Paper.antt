@@ -21,7 +21,7 @@ use Rattle.desk.specs.declared.state.State.{State}
 use Rattle.desk.specs.declared.state.Answer.{Answer}
 use Rattle.desk.specs.declared.state.Answer.the-variants.{Done as Moved, Refused as NotMoved}
 use Rattle.desk.specs.Books.{freshFault, askAnswer}
-use Rattle.counts.specs.Counting.{fieldsFault}
+use Rattle.counts.specs.Weigh.{recordFault}
 use Rattle.desk.specs.Open.{handedFault}
 use Rattle.desk.specs.End.{rowFault}
 use Rattle.demands.specs.Counts.{dayVerdict}
@@ -54,7 +54,7 @@ dayIn log rs = record { head = headerOf log; taken = length rs }
 unfoldable pub takeNumber : List ℕ → List Record → List ℕ → ℕ
 takeNumber log rs row =
     pick (not (eqb (length row) (rowSize log))) 1
-    (orElse (fieldsFault (tablesOf log) (recordOf row)) (pick (leb 1000000 (length rs)) 14 0))
+    (orElse (recordFault (headerOf log .version) (tablesOf log) row) (pick (leb 1000000 (length rs)) 14 0))
 
 -- "End: 10, 1, .. 11, 15, 17, 18, 9, .. 20"
 unfoldable pub endRefusal : List ℕ → List Record → (row book : List ℕ) → ℕ → ℕ

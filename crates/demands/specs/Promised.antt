@@ -10,6 +10,8 @@ use Rattle.demands.specs.MarketMakers.{MarketMakers}
 use Rattle.demands.specs.Starred.{Starred}
 use Rattle.demands.specs.Worked.{Worked, Refusals}
 use Rattle.demands.specs.WorkedYear.{WorkedYear}
+use Rattle.demands.specs.WhoeverSent.{WhoeverSent, WhoeverSentLogs}
+use Rattle.demands.specs.SentExample.{SentExample}
 
 pub record Promised : Type 0 where
   -- demand 1
@@ -36,13 +38,18 @@ pub record Promised : Type 0 where
   pub always-read : AlwaysRead
   pub file-of-days : FileOfDays
   pub logs-found : LogsFound
+  -- request K2: the same, whoever sent it
+  pub whoever-sent : WhoeverSent
+  pub whoever-sent-logs : WhoeverSentLogs
   -- demand 3, over lists of calls and over day logs
   pub nothing-lost : NothingLost
   pub nothing-lost-in-logs : NothingLostInLogs
   pub why-three-or-five : WhyThreeOrFive
-  -- the starred table, the market makers', document 01's example, refusals between, and a small joined year
+  -- the starred table, the market makers', document 01's example, refusals between, the example in version 2, and a
+  -- small joined year
   pub starred-hold : Starred
   pub market-makers : MarketMakers
   pub worked : Worked
   pub refusals : Refusals
+  pub sent-example : SentExample
   pub worked-year : WorkedYear

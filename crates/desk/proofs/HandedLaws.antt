@@ -35,7 +35,7 @@ sound-tables head log e = still-good head log (pick-zero _ 19 _ (lit< tt) e .0)
 pub held-head : (day : Day) (log row : List ℕ) (len : ℕ) → heldFault day log row len ≡ 0 → day .head ≡ headerOf log
 unfolding heldFault weighFault
 held-head day log row len e =
-    let weighed = or-none (sizesFault day row len) _ e .1 in
+    let weighed = or-none _ _ e .1 in
     sound-tables (day .head) log (or-none (changedFault (day .head) log) _ weighed .0) .0
 
 -- ---- opening

@@ -21,7 +21,8 @@ use Rattle.counts.specs.Cells.{planFault, raised}
 use Rattle.desk.specs.Open.{kindsFor}
 use Rattle.desk.specs.Answers.{Moves}
 
--- what the call is handed: "1: a record not 20"; "16: counts buffer under 12,288"
+-- what the call is handed: "1: .. a record not 20", or 24 by the version of the open day (02, K2); "16: counts buffer
+-- under 12,288"
 unfoldable pub sizesFault : Day → List ℕ → (len : ℕ) → ℕ
 sizesFault day row len =
     pick (not (eqb (length row) (recordLength (day .head .version)))) 1

@@ -34,6 +34,11 @@ unfolding pick
 pick-le true a b m p q = p
 pick-le false a b m p q = q
 
+pub pick-least : (t : Bool) (m a b : ℕ) → m ≤ a → m ≤ b → m ≤ pick t a b
+unfolding pick
+pick-least true m a b p q = p
+pick-least false m a b p q = q
+
 -- two tests at once: their parts, and what the parts say of them
 pub and-left : (a b : Bool) → a && b ≡ true → a ≡ true
 and-left true b e = refl

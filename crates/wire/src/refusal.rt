@@ -1,6 +1,6 @@
 // The refusals' numbers, as document 01 names them ("The calls and their refusals"). 0 is none.
 
-// Length: under 16, or not 16+8C+8A, or a record not of 20 bytes.
+// Length: under 16, or not 16+8C+8A, or a record not of 20 bytes, or of 24 in version 2.
 pub const LENGTH: u32 = 1;
 
 // The mark.
@@ -30,7 +30,7 @@ pub const NOT_LATER: u32 = 9;
 // A day is open for open; none is for take, end, abandon.
 pub const WRONG_STATE: u32 = 10;
 
-// The record's own fields, or the wrong type for the call.
+// The record's own fields, its brokers among them, or the wrong type for the call.
 pub const FIELDS: u32 = 11;
 
 // The contract is not in the tables.

@@ -10,6 +10,8 @@ use Rattle.demands.proofs.MarketMakers.{market-makers}
 use Rattle.demands.proofs.Starred.{starred-hold}
 use Rattle.demands.proofs.Worked.{worked, refusals}
 use Rattle.demands.proofs.WorkedYear.{worked-year}
+use Rattle.demands.proofs.WhoeverSent.{whoever-sent, whoever-sent-logs}
+use Rattle.demands.proofs.SentExample.{sent-example}
 use Rattle.demands.proofs.promised.Statement.{statement}
 use Rattle.demands.proofs.promised.Tie as tie
 
@@ -36,6 +38,8 @@ returns c = record {
   always-read = always-read;
   file-of-days = file-of-days;
   logs-found = logs-found;
+  whoever-sent = whoever-sent;
+  whoever-sent-logs = whoever-sent-logs;
   nothing-lost = nothing-lost;
   nothing-lost-in-logs = nothing-lost-in-logs;
   why-three-or-five = why-three-or-five;
@@ -43,6 +47,7 @@ returns c = record {
   market-makers = market-makers;
   worked = worked;
   refusals = refusals;
+  sent-example = sent-example;
   worked-year = worked-year;
 }
 

@@ -1,5 +1,4 @@
-use native.Mathlib.Omega.{arith}
-use Rattle.daylog.specs.Records.{recordLength}
+use Rattle.daylog.proofs.RecordLaws.{some-bytes}
 use borrow.Author.Needs.{needs}
 use Rattle.clerk.proofs.day.judge_day.Statement.{statement}
 use Rattle.clerk.proofs.day.judge_day.Tie as tie
@@ -23,8 +22,7 @@ slice-aggregate-take-all : tie.Need-slice-aggregate-take-all
 slice-aggregate-take-all c = search needs
 
 take-all-requires : tie.Need-take-all-requires
-unfolding recordLength
-take-all-requires c κs = omega (arith, c .before .before .before .record-length .ensures)
+take-all-requires c κs = some-bytes _ _ (c .before .before .before .record-length .ensures)
 
 enum-known-number : tie.Need-enum-known-number
 enum-known-number c = search needs

@@ -1,13 +1,15 @@
 use mathlib.Core.Path.{_≡_}
 use mathlib.Core.Bool.{not}
 use Prim.Native.Nat.{ℕ}
-use borrow.Author.Tests.{eq-eqb}
 use Rattle.wire.specs.Choice.{pick}
 use Rattle.wire.proofs.ChoiceLaws.{chain, pick-no, told-yes, flip-no}
 use Rattle.daylog.specs.Header.{sizesGood, entriesFault, headFault}
 use borrow.Author.Needs.{needs}
 use Rattle.daylog.proofs.header.head_fault.Statement.{statement}
 use Rattle.daylog.proofs.header.head_fault.Tie as tie
+
+is-version-requires : tie.Need-is-version-requires
+is-version-requires c κs = search needs
 
 returns : tie.Need-returns
 unfolding headFault
@@ -37,7 +39,8 @@ passed : (c : tie.Else3) (n : ℕ) →
 unfolding headFault
 passed c n e =
     let r = c .before .before .before in
-    pick-no _ _ _ _ (flip-no _ (eq-eqb _ _ (r .before .before .if1 .left)))
+    let v = r .before .before in
+    pick-no _ _ _ _ (flip-no _ (told-yes _ _ (v .before .is-version .ensures) (v .if1 .left)))
     (pick-no _ _ _ _ (flip-no _ (told-yes _ _ (r .is-rulebook .ensures) (c .before .before .if2 .left)))
     (pick-no _ _ _ _ (flip-no _ (told-yes _ _ (c .before .is-day .ensures) (c .if3 .left))) e))
 
@@ -57,6 +60,7 @@ pub head-fault-spec : {M : Type 1} → statement M
 head-fault-spec =
     tie.close
     (tie.spec
+    is-version-requires
     returns
     cast-is-rulebook
     is-rulebook-requires

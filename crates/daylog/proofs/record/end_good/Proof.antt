@@ -23,13 +23,17 @@ get32-requires-2 c κs = search needs
 get32-requires-3 : tie.Need-get32-requires-3
 get32-requires-3 c κs = search needs
 
+get32-requires-4 : tie.Need-get32-requires-4
+get32-requires-4 c κs = search needs
+
 returns : tie.Need-returns
 unfolding endGood
 returns c =
     let d = c .before .before .before in
-    λ i. eqb (d .before .before .get8 .ensures i) 3 && eqb (d .before .get82 .ensures i) 0
-    && eqb (d .get16 .ensures i) 0 && eqb (c .before .before .get32 .ensures i) 0
-    && eqb (c .before .get322 .ensures i) 0 && eqb (c .get323 .ensures i) 0
+    λ i. eqb (d .before .before .before .get8 .ensures i) 3 && eqb (d .before .before .get82 .ensures i) 0
+    && eqb (d .before .get16 .ensures i) 0 && eqb (d .get32 .ensures i) 0
+    && eqb (c .before .before .get322 .ensures i) 0 && eqb (c .before .get323 .ensures i) 0
+    && eqb (c .get324 .ensures i) 0
 
 pub end-good-spec : {M : Type 1} → statement M
 end-good-spec =
@@ -41,4 +45,5 @@ end-good-spec =
     get32-requires
     get32-requires-2
     get32-requires-3
+    get32-requires-4
     returns)

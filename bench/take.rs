@@ -1,4 +1,5 @@
-// The plain Rust side of bench/run: the same day, the same records, and at each record the checks that document 01 asks of take.
+// The plain Rust side of bench/run: the same day, the same records, and at each record the checks that document 01 asks
+// of take, as request K2 changes them. The day is of version 1.
 const CELLS: usize = 12288;
 
 struct Day {
@@ -69,7 +70,7 @@ fn log_fault(log: &[u8]) -> u32 {
     if &log[0..3] != b"AXD" {
         return 2;
     }
-    if u16_at(log, 4) != 1 {
+    if u16_at(log, 4) != 1 && u16_at(log, 4) != 2 {
         return 3;
     }
     if log[3] != 1 && log[3] != 2 {
@@ -107,6 +108,19 @@ fn record_good(rulebook: u8, r: &[u8]) -> bool {
         && order_good(rulebook, r[16], r[17])
         && (r[0] == 1 && order_good(rulebook, r[18], r[19])
             || r[0] == 2 && u32_at(r, 8) == 0 && r[18] == 0 && r[19] == 0)
+        && brokers_good(r)
+}
+
+fn brokers_good(r: &[u8]) -> bool {
+    r.len() == 20 || u16_at(r, 20) != 0 && (u16_at(r, 22) != 0) == (r[0] == 1)
+}
+
+fn record_length(version: u16) -> usize {
+    if version == 2 {
+        24
+    } else {
+        20
+    }
 }
 
 fn exempt(rulebook: u8, sort: u8, kind: u8, instruction: u8, purpose: u8) -> bool {
@@ -135,7 +149,7 @@ fn find(part: &[u8], number: u32) -> Option<&[u8]> {
 }
 
 fn take(day: &mut Day, log: &[u8], r: &[u8], counts: &mut [u32]) -> u32 {
-    if r.len() != 20 {
+    if r.len() != record_length(day.version) {
         return 1;
     }
     if counts.len() < CELLS {

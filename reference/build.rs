@@ -16,8 +16,8 @@ pub struct Account {
     pub kind: u8,
 }
 
-/// Instruction and purpose.
-pub type Order = (u8, u8);
+/// Instruction, purpose and broker. A log of version 1 leaves the broker out.
+pub type Order = (u8, u8, u16);
 
 #[derive(Clone)]
 pub enum Record {
@@ -28,6 +28,7 @@ pub enum Record {
 #[derive(Clone)]
 pub struct Day {
     pub rulebook: u8,
+    pub version: u16,
     pub date: u32,
     pub contracts: Vec<Contract>,
     pub accounts: Vec<Account>,
@@ -35,22 +36,33 @@ pub struct Day {
     pub records: Vec<(Record, u32)>,
 }
 
+/// Version 2 adds the two brokers.
+pub fn record_length(version: u16) -> usize {
+    if version == 2 {
+        24
+    } else {
+        20
+    }
+}
+
 impl Record {
-    pub fn bytes(&self) -> Vec<u8> {
+    pub fn bytes(&self, version: u16) -> Vec<u8> {
         let (record_type, contract, first, second, lots, orders) = match *self {
             Record::Trade { contract, buyer, seller, lots, orders } => (1, contract, buyer, seller, lots, orders),
-            Record::Cancel { contract, account, lots, order } => (2, contract, account, 0, lots, [order, (0, 0)]),
+            Record::Cancel { contract, account, lots, order } => (2, contract, account, 0, lots, [order, (0, 0, 0)]),
         };
         let mut bytes = vec![record_type, 0];
         bytes.extend(contract.to_le_bytes());
         bytes.extend([first, second, lots].iter().flat_map(|n| n.to_le_bytes()));
-        bytes.extend(orders.iter().flat_map(|&(instruction, purpose)| [instruction, purpose]));
+        bytes.extend(orders.iter().flat_map(|&(instruction, purpose, _)| [instruction, purpose]));
+        bytes.extend(orders.iter().flat_map(|&(_, _, broker)| broker.to_le_bytes()));
+        bytes.truncate(record_length(version));
         bytes
     }
 }
 
-pub fn end_record(number: u32) -> Vec<u8> {
-    let mut bytes = vec![0; 20];
+pub fn end_record(version: u16, number: u32) -> Vec<u8> {
+    let mut bytes = vec![0; record_length(version)];
     bytes[0] = 3;
     bytes[4..8].copy_from_slice(&number.to_le_bytes());
     bytes
@@ -61,7 +73,7 @@ impl Day {
     pub fn tables(&self) -> Vec<u8> {
         let mut bytes = b"AXD".to_vec();
         bytes.push(self.rulebook);
-        bytes.extend(1u16.to_le_bytes());
+        bytes.extend(self.version.to_le_bytes());
         bytes.extend(self.date.to_le_bytes());
         bytes.extend((self.contracts.len() as u16).to_le_bytes());
         bytes.extend((self.accounts.len() as u16).to_le_bytes());
@@ -87,12 +99,16 @@ impl Day {
         self.records.iter().map(|(_, times)| times).sum()
     }
 
+    pub fn end(&self) -> Vec<u8> {
+        end_record(self.version, self.taken())
+    }
+
     pub fn log(&self) -> Vec<u8> {
         let mut bytes = self.tables();
         for (record, times) in &self.records {
-            bytes.extend(record.bytes().repeat(*times as usize));
+            bytes.extend(record.bytes(self.version).repeat(*times as usize));
         }
-        bytes.extend(end_record(self.taken()));
+        bytes.extend(self.end());
         bytes
     }
 }
@@ -207,8 +223,8 @@ impl Script {
         self.tables(&day.tables());
         self.open();
         for (record, times) in &day.records {
-            self.take_often(*times, &record.bytes());
+            self.take_often(*times, &record.bytes(day.version));
         }
-        self.end(&end_record(day.taken()));
+        self.end(&day.end());
     }
 }

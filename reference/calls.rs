@@ -4,7 +4,7 @@ use crate::book;
 use crate::dates;
 use crate::refusal::Refusal;
 use crate::rules::{self, FAMILIES, GROUPS, KINDS, PLACES};
-use crate::tables::{self, Contract, Header, Record, Tables, RECORD};
+use crate::tables::{self, Contract, Header, Record, Tables};
 
 pub const CELLS: usize = GROUPS * KINDS * PLACES;
 pub const FINDING: usize = 8;
@@ -71,7 +71,7 @@ fn check_start<'a>(
     let State::Open(day) = *state else {
         return Err(Refusal::DayState);
     };
-    if record.len() != RECORD {
+    if record.len() != tables::record_length(day.header.version) {
         return Err(Refusal::Length);
     }
     if counts.len() < CELLS {
@@ -89,7 +89,7 @@ pub fn cell(group: usize, kind: usize, place: usize) -> usize {
 
 pub fn take(state: &mut State, tables: &[u8], record: &[u8], counts: &mut [u32]) -> Result<(), Refusal> {
     let (day, tables) = check_start(state, tables, record, counts)?;
-    let record = tables::record(record, day.header.rulebook).ok_or(Refusal::Record)?;
+    let record = tables::record(record, day.header.rulebook)?;
     let contract = tables.contract(record.contract).ok_or(Refusal::NoContract)?;
     let raised = cells_raised(&tables, &record, contract)?;
     if day.taken >= MOST_RECORDS {
@@ -153,7 +153,7 @@ pub fn end(
     findings: &mut [u8],
 ) -> Result<usize, Refusal> {
     let (day, tables) = check_start(state, tables, record, counts)?;
-    let number = tables::end_number(record).ok_or(Refusal::Record)?;
+    let number = tables::end_number(record)?;
     if number != day.taken {
         return Err(Refusal::EndNumber);
     }

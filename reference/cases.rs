@@ -26,7 +26,7 @@ pub enum Input {
 pub struct Case {
     pub name: String,
     pub input: Input,
-    /// The number that each line must begin with by the case's own making; nothing where it is not known.
+    /// The number of each call, or of each log, by the case's own making; nothing where it is not known.
     pub numbers: Option<Vec<u8>>,
 }
 
@@ -40,4 +40,13 @@ pub fn replay_expecting(name: impl Into<String>, script: crate::build::Script, n
 
 pub fn clerk(name: impl Into<String>, book: BookFile, logs: Vec<(Vec<u8>, Feed)>) -> Case {
     Case { name: name.into(), input: Input::Clerk { book, logs }, numbers: None }
+}
+
+pub fn clerk_expecting(
+    name: impl Into<String>,
+    book: BookFile,
+    logs: Vec<(Vec<u8>, Feed)>,
+    numbers: Vec<u8>,
+) -> Case {
+    Case { numbers: Some(numbers), ..clerk(name, book, logs) }
 }

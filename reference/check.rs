@@ -1,6 +1,8 @@
 //! The whole check: cases and joined years of a fixed and of a fresh seed, the large logs, and what is around a day.
+use crate::broker_edges::broker_edges;
+use crate::build::Day;
 use crate::cases::{Case, Input};
-use crate::clerk_edges::{clerk_edges, WORKED_EXAMPLE_TEXT};
+use crate::clerk_edges::{clerk_edges, example_book, example_day, WORKED_EXAMPLE_TEXT};
 use crate::compare::{compare_all, Bench, Difference};
 use crate::edges::edges;
 use crate::ending::Ending;
@@ -44,6 +46,7 @@ impl Score {
 /// Edges, then random cases, each from its own numbers of the seed.
 fn cases_of(seed: u64) -> Vec<Case> {
     let mut all = edges(&mut Random::of_case(seed, 1));
+    all.extend(broker_edges(&mut Random::of_case(seed, 4)));
     all.extend(script_edges());
     all.extend(clerk_edges(&mut Random::of_case(seed, 2)));
     all.extend((0..RANDOM_CASES).map(|i| random_case(&mut Random::of_case(seed, 1_000 + i as u64), i)));
@@ -93,6 +96,8 @@ fn run_joins(seed: u64, bench: &Bench, score: &mut Score) {
         ("a market maker's cancel in futures of rulebook 1", seen.made_in_futures),
         ("a market maker's cancel in options of rulebook 1", seen.made_in_options),
         ("a restriction lost by counting sanction 3 alone", seen.lost.len()),
+        ("a day of version 1", seen.days - seen.days_of_version_2),
+        ("a day of version 2", seen.days_of_version_2),
     ];
     for (what, times) in needed {
         if times == 0 {
@@ -103,7 +108,8 @@ fn run_joins(seed: u64, bench: &Bench, score: &mut Score) {
 }
 
 fn print_seen(seen: &Seen) {
-    println!("{} years passed, of {} days; {} of them by calls too", seen.years, seen.days, seen.replayed);
+    println!("{} years passed, of {} days, {} in version 2", seen.years, seen.days, seen.days_of_version_2);
+    println!("{} of the years by calls too, and with every day in the other version", seen.replayed);
     println!("{} findings of the two groups, {} of the joined group", seen.findings, seen.joined_findings);
     println!(
         "{} years with restrictions of either, {} with a joined total past 3",
@@ -118,14 +124,15 @@ fn print_seen(seen: &Seen) {
     }
 }
 
-/// The reference against document 01's own example.
+/// The reference against document 01's own example, in either version.
 fn check_worked_example(score: &mut Score) {
-    let text = Example::worked().text;
-    if text == WORKED_EXAMPLE_TEXT {
-        score.add(1, 0);
-    } else {
-        println!("the worked example gives {text:?}");
-        score.add(0, 1);
+    for version in [1, 2] {
+        let text = Example::of(&example_book(), Day { version, ..example_day() }.log()).text;
+        let is_right = text == WORKED_EXAMPLE_TEXT;
+        if !is_right {
+            println!("the worked example in version {version} gives {text:?}");
+        }
+        score.add(is_right as usize, !is_right as usize);
     }
 }
 

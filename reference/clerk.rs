@@ -2,7 +2,7 @@
 use crate::book;
 use crate::calls::{self, Finding, State, CELLS, FINDING};
 use crate::refusal::Refusal;
-use crate::tables::{Header, HEADER, RECORD};
+use crate::tables::{record_length, Header, HEADER};
 use std::fmt::Write as _;
 use std::fs::{self, File};
 use std::io::{self, Read, Write};
@@ -17,7 +17,7 @@ pub enum Stop {
 }
 
 impl Stop {
-    fn number(self) -> u8 {
+    pub fn number(self) -> u8 {
         match self {
             Stop::Call(_, refusal) => refusal.number(),
             Stop::CutRecord | Stop::NoEnd | Stop::AfterEnd => 1,
@@ -95,16 +95,18 @@ fn judge<R: Read>(book: &mut [u8], source: R) -> io::Result<Result<(Header, Vec<
     if let Err(refusal) = calls::open(&mut state, &tables, book, &mut counts) {
         return Ok(Err(Stop::Call("open", refusal)));
     }
+    let header = Header::read(&tables);
+    let length = record_length(header.version);
     loop {
-        let record = log.next(RECORD)?;
-        if record.len() < RECORD {
+        let record = log.next(length)?;
+        if record.len() < length {
             return Ok(Err(if record.is_empty() { Stop::NoEnd } else { Stop::CutRecord }));
         }
         if record[0] == 3 {
             break match calls::end(&mut state, &tables, record, book, &counts, &mut findings) {
                 Err(refusal) => Ok(Err(Stop::Call("end", refusal))),
                 Ok(_) if !log.next(1)?.is_empty() => Ok(Err(Stop::AfterEnd)),
-                Ok(n) => Ok(Ok((Header::read(&tables), findings.chunks(FINDING).take(n).map(Finding::read).collect()))),
+                Ok(n) => Ok(Ok((header, findings.chunks(FINDING).take(n).map(Finding::read).collect()))),
             };
         }
         if let Err(refusal) = calls::take(&mut state, &tables, record, &mut counts) {

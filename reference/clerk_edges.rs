@@ -6,9 +6,9 @@ use crate::days;
 use crate::faults::{faults, Fault};
 use crate::random::Random;
 use crate::refusal::Refusal;
-use crate::scene::{scene, Scene};
+use crate::scene::{scene, scene_of, Scene};
 
-pub const DROPS: [usize; 6] = [1, 3, 7, 19, 21, 4_097];
+pub const DROPS: [usize; 8] = [1, 3, 7, 19, 21, 23, 25, 4_097];
 
 pub fn some_feed(random: &mut Random) -> Feed {
     match random.below(4) {
@@ -19,7 +19,7 @@ pub fn some_feed(random: &mut Random) -> Feed {
 }
 
 pub fn clerk_edges(random: &mut Random) -> Vec<Case> {
-    let mut all = vec![worked_example()];
+    let mut all = vec![worked_example(1), worked_example(2)];
     all.extend(opening_faults(random));
     all.extend(record_faults(random));
     all.extend(cut_logs(random));
@@ -29,8 +29,9 @@ pub fn clerk_edges(random: &mut Random) -> Vec<Case> {
 }
 
 /// Document 01's own example. Its text is compared with the document's in `check`.
-pub fn worked_example() -> Case {
-    clerk("the worked example", BookFile::Bytes(example_book()), vec![(example_day().log(), Feed::Pipe)])
+fn worked_example(version: u16) -> Case {
+    let log = Day { version, ..example_day() }.log();
+    clerk(format!("the worked example, version {version}"), BookFile::Bytes(example_book()), vec![(log, Feed::Pipe)])
 }
 
 pub fn example_book() -> Vec<u8> {
@@ -39,9 +40,10 @@ pub fn example_book() -> Vec<u8> {
 
 pub fn example_day() -> Day {
     let account = |number| Account { number, group: 3, kind: 1 };
-    let trade = |buyer| Record::Trade { contract: 101, buyer, seller: 12, lots: 1, orders: [(1, 1); 2] };
+    let trade = |buyer| Record::Trade { contract: 101, buyer, seller: 12, lots: 1, orders: [(1, 1, 7), (1, 1, 8)] };
     Day {
         rulebook: 1,
+        version: 1,
         date: 20240305,
         contracts: vec![Contract { id: 101, contract_type: 1, product: 0, largest: 100 }],
         accounts: vec![account(11), account(12)],
@@ -65,7 +67,7 @@ fn book_bytes(scene: &Scene) -> Vec<u8> {
 fn log_bytes(scene: &Scene, records: u32) -> Vec<u8> {
     let mut bytes = scene.tables.clone();
     bytes.extend(scene.record.repeat(records as usize));
-    bytes.extend(build::end_record(records));
+    bytes.extend(build::end_record(scene.version, records));
     bytes
 }
 
@@ -96,8 +98,9 @@ fn opening_faults(random: &mut Random) -> Vec<Case> {
 }
 
 /// A good scene for the clerk, with its log of five good records in front.
-fn started(random: &mut Random) -> (Scene, Vec<u8>, BookFile) {
-    let scene = scene(random, "take");
+fn started(random: &mut Random, version: u16) -> (Scene, Vec<u8>, BookFile) {
+    let rulebook = random.within(1, 2) as u8;
+    let scene = scene_of(random, "take", rulebook, version);
     let mut log = scene.tables.clone();
     log.extend(scene.record.repeat(5));
     let book = BookFile::Bytes(book_bytes(&scene));
@@ -107,67 +110,79 @@ fn started(random: &mut Random) -> (Scene, Vec<u8>, BookFile) {
 /// A bad record after five good ones, and a bad end after five.
 fn record_faults(random: &mut Random) -> Vec<Case> {
     let mut all = Vec::new();
-    let wanted = [Refusal::Record, Refusal::NoContract, Refusal::NoAccount, Refusal::EndNumber];
+    let wanted = [Refusal::Record, Refusal::Brokers, Refusal::NoContract, Refusal::NoAccount, Refusal::EndNumber];
     for call in ["take", "end"] {
         for fault in faults(call).iter().filter(|fault| wanted.contains(&fault.refusal)) {
-            let (mut scene, mut log, book) = started(random);
+            let version = if fault.refusal == Refusal::Brokers { 2 } else { days::some_version(random) };
+            let (mut scene, mut log, book) = started(random, version);
             if call == "end" {
-                scene.record = build::end_record(5);
+                scene.record = build::end_record(version, 5);
                 scene.set_taken(5);
             }
             (fault.make)(&mut scene);
             log.extend(&scene.record);
-            log.extend(build::end_record(6));
+            log.extend(build::end_record(version, 6));
             all.push(clerk(format!("{call}, {:?}", fault.refusal), book, vec![(log, some_feed(random))]));
         }
     }
     all
 }
 
-/// A short log cut at every byte.
+/// A short log of either version cut at every byte.
 fn cut_logs(random: &mut Random) -> Vec<Case> {
-    let base = scene(random, "take");
-    let whole = log_bytes(&base, 2);
-    (0..=whole.len())
-        .map(|length| {
+    let mut all = Vec::new();
+    for version in [1, 2] {
+        let base = scene_of(random, "take", 1, version);
+        let whole = log_bytes(&base, 2);
+        all.extend((0..=whole.len()).map(|length| {
             let log = (whole[..length].to_vec(), some_feed(random));
-            clerk(format!("cut to {length}"), BookFile::Bytes(book_bytes(&base)), vec![log])
-        })
-        .collect()
+            clerk(format!("version {version} cut to {length}"), BookFile::Bytes(book_bytes(&base)), vec![log])
+        }));
+    }
+    all
 }
 
 /// Ends in the middle, ends with bytes after them, cut-off records of each type, bad books over cut logs.
 fn ends(random: &mut Random) -> Vec<Case> {
+    let mut all: Vec<Case> = [1, 2].into_iter().flat_map(|version| ends_of(random, version)).collect();
+    let (_, log, _) = started(random, 1);
+    all.push(clerk("a bad book over a cut log", BookFile::Bytes(vec![0; 12_304]), vec![(log, Feed::Pipe)]));
+    all
+}
+
+fn ends_of(random: &mut Random, version: u16) -> Vec<Case> {
     let mut all = Vec::new();
-    let tails: [(&str, Vec<u8>); 9] = [
+    let tails: [(&str, Vec<u8>); 11] = [
         ("nothing after", vec![]),
         ("one byte after", vec![0]),
-        ("a record after", vec![1; 20]),
-        ("a second end", build::end_record(5)),
-        ("many bytes after", vec![7; 70_000]),
+        ("4 bytes after", vec![0; 4]),
         ("19 bytes after", vec![0; 19]),
+        ("20 bytes after", vec![1; 20]),
         ("21 bytes after", vec![0; 21]),
+        ("24 bytes after", vec![1; 24]),
+        ("a second end", build::end_record(version, 5)),
+        ("many bytes after", vec![7; 70_000]),
         ("newline after", vec![b'\n']),
         ("a log after", vec![b'A'; 200]),
     ];
     for (name, tail) in tails {
         for number in [4, 5, 6] {
-            let (_, mut log, book) = started(random);
-            log.extend(build::end_record(number));
+            let (_, mut log, book) = started(random, version);
+            log.extend(build::end_record(version, number));
             log.extend(&tail);
-            all.push(clerk(format!("end {number} of 5, {name}"), book, vec![(log, some_feed(random))]));
+            let name = format!("version {version}, end {number} of 5, {name}");
+            all.push(clerk(name, book, vec![(log, some_feed(random))]));
         }
     }
     for first in [0, 1, 2, 3, 4] {
-        for length in [1, 10, 19] {
-            let (_, mut log, book) = started(random);
+        for length in [1, 10, 19, 20, 21, 23] {
+            let (_, mut log, book) = started(random, version);
             log.push(first);
             log.resize(log.len() + length - 1, 0);
-            all.push(clerk(format!("{length} bytes of a type {first}"), book, vec![(log, some_feed(random))]));
+            let name = format!("version {version}, {length} bytes of a type {first}");
+            all.push(clerk(name, book, vec![(log, some_feed(random))]));
         }
     }
-    let (_, log, _) = started(random);
-    all.push(clerk("a bad book over a cut log", BookFile::Bytes(vec![0; 12_304]), vec![(log, Feed::Pipe)]));
     all
 }
 

@@ -79,7 +79,7 @@ fn compare(programs: &Programs, scratch: &Path, case: &Case, tally: &mut Tally) 
                 BookFile::Bytes(bytes) => Some(bytes.clone()),
                 _ => None,
             };
-            compare_logs(programs, scratch, start, logs, tally)
+            compare_logs(programs, scratch, start, logs, tally).and_then(|given| meets_intent(case, &given))
         }
     }
 }
@@ -94,9 +94,8 @@ fn compare_replay(
     let expected = replay::replay(script);
     expected.reached.iter().for_each(|&(call, refusal)| tally.reached(call, refusal));
     tally.close_case();
-    if let Some(numbers) = &case.numbers {
-        meets_intent(&expected.text, numbers)?;
-    }
+    let second_word = |line: &str| line.split(' ').nth(1).unwrap_or("").to_string();
+    meets_intent(case, &expected.text.lines().map(second_word).collect::<Vec<_>>())?;
     fs::create_dir_all(scratch).map_err(|e| e.to_string())?;
     let words = programs.words(&programs.replay);
     let output = run(command(&words, scratch), scratch, script, Feed::Pipe).map_err(|e| e.to_string())?;
@@ -107,13 +106,14 @@ fn compare_replay(
 }
 
 /// The reference itself against what the case was made for.
-fn meets_intent(text: &str, numbers: &[u8]) -> Result<(), String> {
-    let given: Vec<&str> = text.lines().map(|line| line.split(' ').nth(1).unwrap_or("")).collect();
-    let wanted: Vec<String> = numbers.iter().map(u8::to_string).collect();
-    if given == wanted {
-        return Ok(());
+fn meets_intent(case: &Case, given: &[String]) -> Result<(), String> {
+    let wanted: Option<Vec<String>> = case.numbers.as_ref().map(|numbers| numbers.iter().map(u8::to_string).collect());
+    match wanted {
+        Some(wanted) if given != wanted => {
+            Err(format!("the reference gives {given:?} where the case was made for {wanted:?}"))
+        }
+        _ => Ok(()),
     }
-    Err(format!("the reference gives {given:?} where the case was made for {wanted:?}"))
 }
 
 fn first_difference(expected: &replay::Outcome, given: &[u8]) -> String {
@@ -133,23 +133,26 @@ fn first_difference(expected: &replay::Outcome, given: &[u8]) -> String {
     "the same lines, other bytes or another exit status".to_string()
 }
 
+/// The reference's number for each log.
 fn compare_logs(
     programs: &Programs,
     scratch: &Path,
     mut book: Option<Vec<u8>>,
     logs: &[(Vec<u8>, Feed)],
     tally: &mut Tally,
-) -> Result<(), String> {
+) -> Result<Vec<String>, String> {
+    let mut numbers = Vec::new();
     for (k, (log, feed)) in logs.iter().enumerate() {
         let expected = clerk::clerk(book.as_deref(), &log[..]).map_err(|e| e.to_string())?;
-        count_stop(tally, expected.stop);
+        numbers.push(expected.stop.map_or(0, Stop::number).to_string());
+        count_stop(tally, expected.stop, log);
         compare_log(programs, scratch, &expected.text, log, *feed).map_err(|what| format!("log {k}: {what}"))?;
         book = expected.book.or(book);
         same_file(&scratch.join("book.axb"), book.as_deref()).map_err(|what| format!("log {k}: {what}"))?;
         nothing_else(scratch).map_err(|what| format!("log {k}: {what}"))?;
     }
     tally.close_case();
-    Ok(())
+    Ok(numbers)
 }
 
 /// Nothing is left beside the book.
@@ -163,9 +166,9 @@ pub fn nothing_else(scratch: &Path) -> Result<(), String> {
     Ok(())
 }
 
-fn count_stop(tally: &mut Tally, stop: Option<Stop>) {
+fn count_stop(tally: &mut Tally, stop: Option<Stop>, log: &[u8]) {
     match stop {
-        None => tally.clerk("accepted", 0, ""),
+        None => tally.clerk("accepted", 0, &format!(" (version {})", log[4])),
         Some(Stop::Call(call, refusal)) => tally.clerk(call, refusal.number(), refusal.note()),
         Some(Stop::CutRecord) => tally.clerk("log", 1, " (cut-off record)"),
         Some(Stop::NoEnd) => tally.clerk("log", 1, " (no end record)"),

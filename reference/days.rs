@@ -59,13 +59,33 @@ fn accounts(random: &mut Random, n: usize) -> Vec<Account> {
         .collect()
 }
 
+const BROKERS: [u16; 7] = [1, 255, 256, 257, 512, 65_280, 65_535];
+
+/// Half of them have a byte that is zero, or are at an end of the range.
+pub fn some_broker(random: &mut Random) -> u16 {
+    if random.one_in(2) {
+        return random.pick(&BROKERS);
+    }
+    random.within(1, 65_535) as u16
+}
+
+/// The same record, sent by others.
+pub fn from_other_brokers(random: &mut Random, record: &Record) -> Record {
+    let mut record = record.clone();
+    match &mut record {
+        Record::Trade { orders, .. } => orders.iter_mut().for_each(|order| order.2 = some_broker(random)),
+        Record::Cancel { order, .. } => order.2 = some_broker(random),
+    }
+    record
+}
+
 /// Mostly a plain or FOK order of an ordinary purpose, so that days reach their numbers.
 pub fn some_order(random: &mut Random, rulebook: u8) -> Order {
     let instructions: &[u8] = if rulebook == 1 { &[1, 2, 3, 4, 5, 6] } else { &[1, 2, 5, 6] };
     let usual = if rulebook == 1 { 1 } else { random.pick(&[1, 5, 6]) };
     let instruction = if random.one_in(5) { random.pick(instructions) } else { usual };
     let purpose = if random.one_in(5) { random.within(1, 4) as u8 } else { 1 };
-    (instruction, purpose)
+    (instruction, purpose, some_broker(random))
 }
 
 /// Either side of four fifths of the largest order, and the ends of the range.
@@ -95,6 +115,10 @@ fn some_times(random: &mut Random, is_trade: bool, most: u32) -> u32 {
     random.pick(near).min(most)
 }
 
+pub fn some_version(random: &mut Random) -> u16 {
+    random.within(1, 2) as u16
+}
+
 /// A day of some bursts. Big tables where asked for; `most` keeps a day's log short.
 pub fn some_day(random: &mut Random, rulebook: u8, date: u32, most: u32) -> Day {
     let (c, a) = if random.one_in(12) {
@@ -103,7 +127,7 @@ pub fn some_day(random: &mut Random, rulebook: u8, date: u32, most: u32) -> Day 
         (random.within(1, 5), random.within(1, 8))
     };
     let (contracts, accounts) = (contracts(random, rulebook, c), accounts(random, a));
-    let mut day = Day { rulebook, date, contracts, accounts, records: Vec::new() };
+    let mut day = Day { rulebook, version: some_version(random), date, contracts, accounts, records: Vec::new() };
     for _ in 0..random.within(0, 7) {
         let record = some_record(random, &day);
         let times = some_times(random, matches!(record, Record::Trade { .. }), most);

@@ -1,5 +1,6 @@
 //! Cases at the edges: each fault alone, each pair of faults that tests an order, either side of every number, the
-//! turns of years, rungs, full sizes. They are the same for every seed but for what does not matter to the edge.
+//! turns of years, rungs, full sizes. They are the same for every seed but for what does not matter to the edge. Those
+//! of request K2 alone are in `broker_edges`.
 use crate::build::{self, Account, Contract, Day, Record, Script, Total};
 use crate::cases::{replay, replay_expecting, Case};
 use crate::dates;
@@ -8,7 +9,7 @@ use crate::faults::{faults, Fault};
 use crate::random::Random;
 use crate::refusal::{order, Refusal};
 use crate::rules;
-use crate::scene::{scene, scene_cell, Scene};
+use crate::scene::{changed_scenes, scene, scene_cell, scene_of, Change, Scene};
 
 pub const CALLS: [&str; 6] = ["fresh", "open", "take", "end", "abandon", "ask"];
 
@@ -30,18 +31,22 @@ pub fn edges(random: &mut Random) -> Vec<Case> {
     all
 }
 
+const RULEBOOKS_AND_VERSIONS: [(u8, u16); 4] = [(1, 1), (2, 1), (1, 2), (2, 2)];
+
+/// Each fault in both rulebooks and both versions. Only version 2 has brokers.
 fn single_faults(random: &mut Random, call: &str) -> Vec<Case> {
-    let chunk_case = |(i, chunk): (usize, &[Fault])| {
-        let mut script = Script::default();
-        for fault in chunk {
-            let mut scene = scene(random, call);
-            (fault.make)(&mut scene);
-            scene.call(call, &mut script);
+    let mut all = Vec::new();
+    for (rulebook, version) in RULEBOOKS_AND_VERSIONS {
+        let is_possible = |fault: &Fault| version == 2 || fault.refusal != Refusal::Brokers;
+        let faults: Vec<Fault> = faults(call).into_iter().filter(is_possible).collect();
+        for (i, chunk) in faults.chunks(12).enumerate() {
+            let script = changed_scenes(random, call, (rulebook, version), chunk.iter().map(|fault| &fault.make));
+            let numbers = chunk.iter().map(|fault| fault.refusal.number()).collect();
+            let name = format!("{call}, one fault, rulebook {rulebook}, version {version}, part {i}");
+            all.push(replay_expecting(name, script, numbers));
         }
-        let numbers = chunk.iter().map(|fault| fault.refusal.number()).collect();
-        replay_expecting(format!("{call}, one fault, part {i}"), script, numbers)
-    };
-    faults(call).chunks(12).enumerate().map(chunk_case).collect()
+    }
+    all
 }
 
 /// For each two refusals of the order, scenes with a fault of either: the earlier one is due. The later fault goes in
@@ -53,8 +58,9 @@ fn fault_pairs(random: &mut Random, call: &str) -> Vec<Case> {
     for (i, &earlier) in order(call).iter().enumerate() {
         for &later in &order(call)[i + 1..] {
             let mut script = Script::default();
-            for _ in 0..8 {
-                let mut scene = scene(random, call);
+            let of_brokers = [earlier, later].contains(&Refusal::Brokers);
+            for (rulebook, version) in RULEBOOKS_AND_VERSIONS.repeat(2) {
+                let mut scene = scene_of(random, call, rulebook, if of_brokers { 2 } else { version });
                 (random.pick(&of(later)).make)(&mut scene);
                 (random.pick(&of(earlier)).make)(&mut scene);
                 scene.call(call, &mut script);
@@ -65,8 +71,6 @@ fn fault_pairs(random: &mut Random, call: &str) -> Vec<Case> {
     }
     all
 }
-
-type Change = Box<dyn Fn(&mut Scene)>;
 
 /// Changes up to an edge that must still be accepted, by call.
 fn accepted_changes(call: &str) -> Vec<Change> {
@@ -163,21 +167,19 @@ fn accepted_ends() -> Vec<Change> {
 fn accepted_sides(random: &mut Random) -> Vec<Case> {
     let mut all = Vec::new();
     for call in ["open", "take", "end"] {
-        for (i, chunk) in accepted_changes(call).chunks(12).enumerate() {
-            let mut script = Script::default();
-            for change in chunk {
-                let mut scene = scene(random, call);
-                change(&mut scene);
-                scene.call(call, &mut script);
+        for (rulebook, version) in RULEBOOKS_AND_VERSIONS {
+            for (i, chunk) in accepted_changes(call).chunks(12).enumerate() {
+                let script = changed_scenes(random, call, (rulebook, version), chunk);
+                let name = format!("{call}, accepted edge, rulebook {rulebook}, version {version}, part {i}");
+                all.push(replay_expecting(name, script, vec![0; chunk.len()]));
             }
-            all.push(replay_expecting(format!("{call}, accepted edge, part {i}"), script, vec![0; chunk.len()]));
         }
     }
     all
 }
 
-/// A small day, written without chance: contracts 101.., one for each type and product given.
-fn small_day(rulebook: u8, date: u32, contracts: &[(u8, u8)], accounts: &[(u8, u8)]) -> Day {
+/// A small day of version 1, written without chance: contracts 101.., one for each type and product given.
+pub fn small_day(rulebook: u8, date: u32, contracts: &[(u8, u8)], accounts: &[(u8, u8)]) -> Day {
     let contract = |(i, &(contract_type, product)): (usize, &(u8, u8))| Contract {
         id: 101 + i as u16,
         contract_type,
@@ -187,6 +189,7 @@ fn small_day(rulebook: u8, date: u32, contracts: &[(u8, u8)], accounts: &[(u8, u
     let account = |(i, &(group, kind)): (usize, &(u8, u8))| Account { number: 11 + i as u32, group, kind };
     Day {
         rulebook,
+        version: 1,
         date,
         contracts: contracts.iter().enumerate().map(contract).collect(),
         accounts: accounts.iter().enumerate().map(account).collect(),
@@ -203,7 +206,7 @@ fn hand_day(script: &mut Script, day: &Day, last_date: u32, totals: &[Total], ta
     totals.iter().for_each(|total| script.total(total));
     script.counts(12_288, 0);
     cells.iter().for_each(|&(cell, value)| script.count(cell, value));
-    script.end(&build::end_record(taken));
+    script.end(&build::end_record(day.version, taken));
 }
 
 fn cell(group: u32, kind: u32, place: u32) -> u32 {
@@ -315,7 +318,7 @@ fn rungs() -> Vec<Case> {
 }
 
 /// Opens the day and takes each record once, with counts and a book that fit.
-fn taken_once(day: &Day, records: &[Vec<u8>]) -> Script {
+pub fn taken_once(day: &Day, records: &[Vec<u8>]) -> Script {
     let mut script = Script::default();
     script.book(12_304);
     script.fresh(day.rulebook as u64);
@@ -337,7 +340,7 @@ fn four_fifths() -> Vec<Case> {
             let fifths = 4 * contract.largest / 5;
             let lots = (fifths.saturating_sub(1)..=fifths + 2).filter(|lots| (1..=1_000_000).contains(lots));
             let records: Vec<Vec<u8>> = lots
-                .map(|lots| Record::Cancel { contract: contract.id, account: 11, lots, order: (1, 1) }.bytes())
+                .map(|lots| Record::Cancel { contract: contract.id, account: 11, lots, order: (1, 1, 7) }.bytes(1))
                 .collect();
             let name = format!("four fifths of {}, rulebook {rulebook}", contract.largest);
             all.push(replay(name, taken_once(&day, &records)));
@@ -350,26 +353,27 @@ fn four_fifths() -> Vec<Case> {
 /// futures and, in rulebook 1, on an option.
 fn exemptions() -> Vec<Case> {
     let mut all = Vec::new();
-    for rulebook in [1, 2] {
+    for (rulebook, version) in RULEBOOKS_AND_VERSIONS {
         let option = if rulebook == 1 { 2 } else { 1 };
         let day = small_day(rulebook, 20240305, &[(1, 0), (option, 1)], &[(3, 1), (3, 2)]);
+        let day = Day { version, ..day };
         for instruction in 0..=7 {
             let mut records = Vec::new();
             for purpose in 0..=5 {
-                records.extend(records_with(101, (instruction, purpose)));
-                records.extend(records_with(102, (instruction, purpose)));
+                records.extend(records_with(version, 101, (instruction, purpose, 7)));
+                records.extend(records_with(version, 102, (instruction, purpose, 7)));
             }
-            let name = format!("instruction {instruction} with each purpose, rulebook {rulebook}");
+            let name = format!("instruction {instruction}, each purpose, rulebook {rulebook}, version {version}");
             all.push(replay(name, taken_once(&day, &records)));
         }
     }
     all
 }
 
-fn records_with(contract: u16, order: build::Order) -> [Vec<u8>; 4] {
-    let trade = |orders| Record::Trade { contract, buyer: 11, seller: 12, lots: 1, orders }.bytes();
-    let cancel = |lots| Record::Cancel { contract, account: 12, lots, order }.bytes();
-    [trade([order, (5, 1)]), trade([(1, 1), order]), cancel(1), cancel(1_000)]
+fn records_with(version: u16, contract: u16, order: build::Order) -> [Vec<u8>; 4] {
+    let trade = |orders| Record::Trade { contract, buyer: 11, seller: 12, lots: 1, orders }.bytes(version);
+    let cancel = |lots| Record::Cancel { contract, account: 12, lots, order }.bytes(version);
+    [trade([order, (5, 1, 8)]), trade([(1, 1, 8), order]), cancel(1), cancel(1_000)]
 }
 
 /// Cancels of market making by rulebook, contract type, lots of 1,000 and times. With no room for a finding, 20 tells
@@ -389,9 +393,9 @@ fn market_makers() -> Vec<Case> {
         let instruction = if rulebook == 1 { 1 } else { 5 };
         let mut script = taken_once(&day, &[]);
         script.findings(7, 0);
-        let record = Record::Cancel { contract: 101, account: 11, lots, order: (instruction, 4) };
-        script.take_often(times, &record.bytes());
-        script.end(&build::end_record(times));
+        let record = Record::Cancel { contract: 101, account: 11, lots, order: (instruction, 4, 7) };
+        script.take_often(times, &record.bytes(day.version));
+        script.end(&build::end_record(day.version, times));
         let name = format!("{times} of a market maker's cancels, type {contract_type}, rulebook {rulebook}");
         replay_expecting(name, script, vec![0, 0, 0, number])
     };
@@ -418,7 +422,7 @@ fn full_sizes() -> Vec<Case> {
             script.book_bytes(0, &build::book_head(rulebook, 20240304));
             script.counts(12_288, 500);
             script.findings(length, 85);
-            script.end(&build::end_record(500));
+            script.end(&build::end_record(day.version, 500));
             script.ask([128, 3, 1]);
             let name = format!("{findings} findings into {length} bytes");
             all.push(replay_expecting(name, script, vec![number, 0]));
@@ -437,14 +441,14 @@ fn full_sizes() -> Vec<Case> {
 /// The records taken go from 0 to 1,000,000 and no further.
 fn million() -> Script {
     let day = small_day(1, 20240305, &[(1, 0)], &[(3, 1)]);
-    let record = Record::Cancel { contract: 101, account: 11, lots: 1_000, order: (1, 1) }.bytes();
+    let record = Record::Cancel { contract: 101, account: 11, lots: 1_000, order: (1, 1, 7) }.bytes(day.version);
     let mut script = taken_once(&day, &[]);
     script.findings(64, 0);
     script.take_often(999_999, &record);
     script.take_often(5, &record);
     script.take(&record);
-    script.end(&build::end_record(999_999));
-    script.end(&build::end_record(1_000_000));
+    script.end(&build::end_record(day.version, 999_999));
+    script.end(&build::end_record(day.version, 1_000_000));
     script
 }
 

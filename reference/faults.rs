@@ -1,10 +1,10 @@
 //! Faults, each with the refusal that it brings where it stands alone, and how it is put into a scene.
 use crate::refusal::Refusal;
-use crate::scene::{scene_cell, Scene};
+use crate::scene::{scene_cell, Change, Scene};
 
 pub struct Fault {
     pub refusal: Refusal,
-    pub make: Box<dyn Fn(&mut Scene)>,
+    pub make: Change,
 }
 
 fn fault(refusal: Refusal, make: impl Fn(&mut Scene) + 'static) -> Fault {
@@ -30,6 +30,9 @@ pub const BAD_DATES: [u32; 16] = [
     u32::MAX,
 ];
 
+/// With a low byte of 1 and of 2, and with 2 in the high byte alone, among them.
+const BAD_VERSIONS: [u16; 7] = [0, 3, 257, 258, 512, 513, 65_535];
+
 /// Faults in the tables' header: 1 (under 16) to 6.
 fn header_faults() -> Vec<Fault> {
     let mut all = Vec::new();
@@ -39,7 +42,7 @@ fn header_faults() -> Vec<Fault> {
     for (at, byte) in [(0, b'B'), (1, b'Y'), (2, b'B'), (0, 0), (2, b'd')] {
         all.push(fault(Refusal::Mark, move |s| s.put(at, &[byte])));
     }
-    for version in [0u16, 2, 257, 65_535] {
+    for version in BAD_VERSIONS {
         all.push(fault(Refusal::Version, move |s| s.put(4, &version.to_le_bytes())));
     }
     for rulebook in [0, 3, 255] {
@@ -167,16 +170,40 @@ pub fn open_faults() -> Vec<Fault> {
 /// How take and end begin: 10, 1, 16, 19 (tables).
 fn start_faults() -> Vec<Fault> {
     let mut all = vec![fault(Refusal::DayState, |s| s.day = None)];
-    for length in [0, 1, 19, 21, 24, 40, 64] {
-        all.push(fault(Refusal::Length, move |s| s.record.resize(length, 0)));
+    for length in [0, 1, 19, 20, 21, 23, 24, 25, 40, 44, 48, 64] {
+        all.push(fault(Refusal::Length, move |s| wrong_length(s, length)));
     }
+    all.push(fault(Refusal::Length, other_length_due));
     all.extend(counts_faults());
     all.extend(table_faults().into_iter().map(as_changed));
     all.extend(table_faults().into_iter().map(as_changed).map(with_day_following));
     for at in 0..13 {
-        all.push(fault(Refusal::TablesChanged, move |s| s.day.iter_mut().for_each(|day| day.0[at] ^= 2)));
+        all.push(fault(Refusal::TablesChanged, move |s| s.change_day(|head| head[at] ^= 2)));
     }
+    for version in BAD_VERSIONS {
+        all.push(fault(Refusal::TablesChanged, move |s| {
+            s.change_day(|head| head[1..3].copy_from_slice(&version.to_le_bytes()));
+        }));
+    }
+    // the other good version, in the state and in the tables
+    all.push(fault(Refusal::TablesChanged, |s| {
+        let other = 3 - s.version as u8;
+        s.change_day(|head| head[1] = other);
+    }));
+    all.push(fault(Refusal::TablesChanged, |s| s.put(4, &[3 - s.version as u8])));
     all
+}
+
+/// A record fits the open day until now: where this length does too, it gets that of the other version.
+fn wrong_length(s: &mut Scene, length: usize) {
+    let other = if length == 24 { 20 } else { 24 };
+    s.record.resize(if length == s.record.len() { other } else { length }, 0);
+}
+
+/// The record stays, and the open day is of the other version, whatever the tables are.
+fn other_length_due(s: &mut Scene) {
+    let version = if s.record.len() == 24 { 1 } else { 2 };
+    s.day.iter_mut().for_each(|day| day.0[1..3].copy_from_slice(&[version, 0]));
 }
 
 fn as_changed(table_fault: Fault) -> Fault {
@@ -187,7 +214,7 @@ fn as_changed(table_fault: Fault) -> Fault {
 fn with_day_following(table_fault: Fault) -> Fault {
     fault(Refusal::TablesChanged, move |s| {
         (table_fault.make)(s);
-        if s.day.is_some() && s.tables.len() >= 16 {
+        if s.tables.len() >= 16 {
             s.follow_tables();
         }
     })
@@ -221,6 +248,23 @@ fn record_faults() -> Vec<Fault> {
     all
 }
 
+/// In scenes of version 2: a broker that is due is not there, or a cancel has a second one.
+fn broker_faults() -> Vec<Fault> {
+    let mut all = vec![fault(Refusal::Brokers, |s| s.set_record(20, &[0; 2]))];
+    all.push(fault(Refusal::Brokers, |s| s.set_record(20, &[0; 4])));
+    all.push(fault(Refusal::Brokers, |s| {
+        s.make_trade();
+        s.set_record(22, &[0; 2]);
+    }));
+    for brokers in [[7, 0, 1, 0], [7, 0, 0, 1], [7, 0, 7, 0], [0, 0, 7, 0], [0, 1, 0, 255]] {
+        all.push(fault(Refusal::Brokers, move |s| {
+            s.make_cancel();
+            s.set_record(20, &brokers);
+        }));
+    }
+    all
+}
+
 /// Of a trade, whatever another fault made of the record: a cancel's zero would be right.
 fn second_order_fault(s: &mut Scene, at: usize, byte: u8) {
     s.make_trade();
@@ -230,6 +274,7 @@ fn second_order_fault(s: &mut Scene, at: usize, byte: u8) {
 pub fn take_faults() -> Vec<Fault> {
     let mut all = start_faults();
     all.extend(record_faults());
+    all.extend(broker_faults());
     for id in [0u16, 100, 103, 64_999, 65_001, 65_535] {
         all.push(fault(Refusal::NoContract, move |s| s.set_record(2, &id.to_le_bytes())));
     }
@@ -275,6 +320,9 @@ pub fn end_faults() -> Vec<Fault> {
     }
     for at in [1, 2, 3, 8, 9, 10, 11, 12, 13, 14, 15, 16, 17, 18, 19] {
         all.push(fault(Refusal::Record, move |s| s.set_record(at, &[1])));
+    }
+    for (at, byte) in [(20, 1), (21, 1), (22, 1), (23, 1), (20, 255), (23, 128)] {
+        all.push(fault(Refusal::Brokers, move |s| s.set_record(at, &[byte])));
     }
     for change in [-1, 1, 256, 65_536] {
         all.push(fault(Refusal::EndNumber, move |s| {

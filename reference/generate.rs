@@ -2,7 +2,7 @@
 use crate::build::{self, Day, Script};
 use crate::cases::{clerk, replay, BookFile, Case, Feed};
 use crate::clerk_edges::some_feed;
-use crate::days::{any_date, some_day, some_later, some_record, some_totals};
+use crate::days::{any_date, from_other_brokers, some_day, some_later, some_record, some_totals};
 use crate::edges::CALLS;
 use crate::faults::faults;
 use crate::random::Random;
@@ -81,11 +81,11 @@ fn disturbed_days(random: &mut Random) -> Script {
         script.open();
         for (record, times) in &day.records {
             disturb(random, &mut script, &day);
-            script.take_often(*times, &record.bytes());
+            script.take_often(*times, &record.bytes(day.version));
         }
         disturb(random, &mut script, &day);
         let off = random.pick(&[0, 0, 0, 0, 1]);
-        script.end(&build::end_record(day.taken() + off));
+        script.end(&build::end_record(day.version, day.taken() + off));
         last_date = last_date.max(date);
     }
     script
@@ -93,7 +93,7 @@ fn disturbed_days(random: &mut Random) -> Script {
 
 fn disturb(random: &mut Random, script: &mut Script, day: &Day) {
     let cell = (day.accounts[0].group as u32 - 1) * 96 + random.below(96) as u32;
-    match random.below(16) {
+    match random.below(20) {
         0 => script.open(),
         1 => script.abandon(),
         2 => script.closed(),
@@ -101,7 +101,7 @@ fn disturb(random: &mut Random, script: &mut Script, day: &Day) {
         4 => script.count(cell, random.pick(&[0, 1, 4, 5, 99, 100, 399, 400, 499, 500, u32::MAX])),
         5 => script.counts(random.pick(&[12_287, 12_288, 12_289]), random.below(3) as u32),
         6 => {
-            let record = some_record(random, day).bytes();
+            let record = some_record(random, day).bytes(day.version);
             script.take(&damage(random, record));
         }
         7 => script.tables(&damage(random, day.tables())),
@@ -109,6 +109,16 @@ fn disturb(random: &mut Random, script: &mut Script, day: &Day) {
         9 => script.fresh(random.below(4) as u64),
         10 => script.book_bytes(random.below(12_304) as u32, &[random.pick(&[0, 1, 255])]),
         11 => script.findings(random.pick(&[0, 7, 8, 15, 16, 80]), 1),
+        12 => script.take(&some_record(random, day).bytes(3 - day.version)),
+        13 => {
+            let mut record = some_record(random, day).bytes(2);
+            damage_brokers(random, &mut record);
+            script.take(&record);
+        }
+        14 => {
+            let version = random.pick(&[0, 1, 2, 3, 257, 258, 512]);
+            script.opened(&Day { version, ..day.clone() }.head(), day.taken());
+        }
         _ => {}
     }
 }
@@ -145,10 +155,21 @@ pub fn damage(random: &mut Random, mut bytes: Vec<u8>) -> Vec<u8> {
         2 | 3 => bytes[at] = random.pick(&[0, 1, 2, 3, 4, 5, 16, 127, 128, 129, 255]),
         4 => bytes[at] = bytes[at].wrapping_add(random.pick(&[1, 255])),
         5 => bytes.truncate(at),
-        6 => bytes.resize(bytes.len() + random.pick(&[1, 8, 19, 20, 21]), random.below(4) as u8),
+        6 => bytes.resize(bytes.len() + random.pick(&[1, 4, 8, 19, 20, 21, 23, 24, 25]), random.below(4) as u8),
         _ => drop(bytes.remove(at)),
     }
     bytes
+}
+
+/// A broker that is lost, the two exchanged, or a byte made up; also of an end record of version 2.
+fn damage_brokers(random: &mut Random, record: &mut [u8]) {
+    let brokers = &mut record[20..24];
+    match random.below(4) {
+        0 => brokers[..2].fill(0),
+        1 => brokers[2..].fill(0),
+        2 => brokers.rotate_left(2),
+        _ => brokers[random.below(4)] = random.pick(&[1, 255]),
+    }
 }
 
 fn damaged_script(random: &mut Random) -> Script {
@@ -176,10 +197,13 @@ fn feed_for(random: &mut Random, log: &[u8]) -> Feed {
     }
 }
 
-/// The log of a day, at times with its records in another order.
+/// The log of a day, at times with its records in another order and each from brokers of its own.
 fn some_log(random: &mut Random, day: &mut Day) -> Vec<u8> {
     if random.one_in(2) {
-        let mut records: Vec<_> = day.records.iter().flat_map(|(r, n)| vec![(r.clone(), 1); *n as usize]).collect();
+        let mut records = Vec::new();
+        for (record, times) in &day.records {
+            records.extend((0..*times).map(|_| (from_other_brokers(random, record), 1)));
+        }
         for i in (1..records.len()).rev() {
             records.swap(i, random.below(i + 1));
         }
@@ -221,10 +245,15 @@ fn damaged_log(random: &mut Random, i: usize) -> Case {
 
 /// A damaged record in the place of one in the log, of the same length: what follows stays in step.
 fn damage_record(random: &mut Random, day: &Day, log: &mut [u8]) {
-    let at = day.tables().len() + 20 * random.below(day.taken() as usize + 1);
-    let mut record = damage(random, log[at..at + 20].to_vec());
-    record.resize(20, 0);
-    log[at..at + 20].copy_from_slice(&record);
+    let length = build::record_length(day.version);
+    let at = day.tables().len() + length * random.below(day.taken() as usize + 1);
+    let place = &mut log[at..at + length];
+    if day.version == 2 && random.one_in(2) {
+        return damage_brokers(random, place);
+    }
+    let mut record = damage(random, place.to_vec());
+    record.resize(length, 0);
+    place.copy_from_slice(&record);
 }
 
 fn damaged_book(random: &mut Random, i: usize) -> Case {

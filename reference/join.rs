@@ -27,7 +27,7 @@ pub fn cells(day: &Day, tables: &[u8]) -> Result<Vec<u32>, Refusal> {
     calls::fresh(day.rulebook as u64, &mut book)?;
     calls::open(&mut state, tables, &book, &mut counts)?;
     for (record, times) in &day.records {
-        let bytes = record.bytes();
+        let bytes = record.bytes(day.version);
         (0..*times).try_for_each(|_| calls::take(&mut state, tables, &bytes, &mut counts))?;
     }
     Ok(counts)

@@ -1,6 +1,6 @@
 //! Runs generated years twice through the programs, as they are and with two groups joined, and judges what they gave.
 use crate::book;
-use crate::build::{end_record, Day, Record, Script};
+use crate::build::{Day, Record, Script};
 use crate::calls::{Finding, CELLS};
 use crate::cases::Feed;
 use crate::clerk;
@@ -14,7 +14,8 @@ use std::fs;
 use std::path::Path;
 use std::sync::Mutex;
 
-/// One year in so many also goes through replay, call by call; rulebooks change from year to year.
+/// One year in so many also goes through replay, call by call, and again with each day in the other version; rulebooks
+/// change from year to year.
 const REPLAYED: usize = 3;
 const FINDINGS: u32 = 49_152;
 
@@ -23,6 +24,7 @@ const FINDINGS: u32 = 49_152;
 pub struct Seen {
     pub years: usize,
     pub days: usize,
+    pub days_of_version_2: usize,
     pub replayed: usize,
     /// Findings of the two groups as they were, and of the joined group.
     pub findings: usize,
@@ -47,6 +49,7 @@ impl Seen {
         };
         self.years += 1;
         self.days += days.len();
+        self.days_of_version_2 += days.iter().filter(|day| day.version == 2).count();
         self.replayed += is_replayed(i) as usize;
         self.findings += of(join.before, &[a, b]);
         self.joined_findings += of(join.after, &[b]);
@@ -71,7 +74,7 @@ fn made_in(day: &Day) -> [usize; 2] {
     let type_of = |id| day.contracts.iter().find(|contract| contract.id == id).map(|contract| contract.contract_type);
     let mut made = [0; 2];
     for (record, times) in day.records.iter().filter(|_| day.rulebook == 1) {
-        if let Record::Cancel { contract, order: (1, 4), .. } = record {
+        if let Record::Cancel { contract, order: (1, 4, _), .. } = record {
             made[(type_of(*contract) == Some(2)) as usize] += *times as usize;
         }
     }
@@ -127,11 +130,34 @@ fn check_year(programs: &Programs, scratch: &Path, i: usize, year: &Year, see: i
     as_the_reference(&before, year.rulebook, &logs)?;
     as_the_reference(&after, year.rulebook, &joined_logs).map_err(|what| format!("joined: {what}"))?;
     if is_replayed(i) {
-        through_replay(programs, scratch, &year_script(year, Day::tables), &counts.0)?;
+        let ends = through_replay(programs, scratch, &year_script(year, Day::tables), &counts.0)?;
         let script = year_script(year, |day| joined(&day.tables(), year.a, year.b));
         through_replay(programs, scratch, &script, &counts.1).map_err(|what| format!("joined: {what}"))?;
+        in_other_versions(programs, scratch, year, &before, &ends).map_err(|what| format!("other versions: {what}"))?;
     }
     see(&join);
+    Ok(())
+}
+
+/// Brokers change nothing: each day in the other version gives the same text and book by the clerk, and by calls the
+/// same number of findings and the same bytes of book, counts and findings.
+fn in_other_versions(
+    programs: &Programs,
+    scratch: &Path,
+    year: &Year,
+    before: &ThroughClerk,
+    ends: &[String],
+) -> Result<(), String> {
+    let other = |day: &Day| Day { version: 3 - day.version, ..day.clone() };
+    let year = Year { days: year.days.iter().map(other).collect(), ..*year };
+    let logs: Vec<Vec<u8>> = year.days.iter().map(Day::log).collect();
+    let after = through_clerk(programs, scratch, year.rulebook, &logs)?;
+    if after.texts != before.texts || after.books != before.books {
+        return Err("the clerk gives other findings or books".to_string());
+    }
+    if through_replay(programs, scratch, &year_script(&year, Day::tables), &[])? != ends {
+        return Err("replay gives other lines at the ends of days".to_string());
+    }
     Ok(())
 }
 
@@ -224,26 +250,31 @@ fn year_script(year: &Year, tables: impl Fn(&Day) -> Vec<u8>) -> Script {
         script.tables(&tables(day));
         script.open();
         for (record, times) in &day.records {
-            let bytes = record.bytes();
+            let bytes = record.bytes(day.version);
             if *times == 1 {
                 script.take(&bytes);
             } else {
                 script.take_often(*times, &bytes);
             }
         }
-        script.end(&end_record(day.taken()));
+        script.end(&day.end());
     }
     script
 }
 
-/// Replay answers as the reference does; and at each day's end the counts are those given.
-fn through_replay(programs: &Programs, scratch: &Path, script: &Script, counts: &[Vec<u32>]) -> Result<(), String> {
+/// Replay answers as the reference does; and at each day's end the counts are those given. Its lines at the ends.
+fn through_replay(
+    programs: &Programs,
+    scratch: &Path,
+    script: &Script,
+    counts: &[Vec<u32>],
+) -> Result<Vec<String>, String> {
     let words = programs.words(&programs.replay);
     let output = run(command(&words, scratch), scratch, &script.0, Feed::Pipe).map_err(|e| e.to_string())?;
     let text = String::from_utf8_lossy(&output.stdout);
-    let ends: Vec<&str> = text.lines().filter(|line| line.starts_with("e ")).collect();
+    let ends: Vec<String> = text.lines().filter(|line| line.starts_with("e ")).map(String::from).collect();
     for (k, cells) in counts.iter().enumerate() {
-        let line = ends.get(k).copied().unwrap_or("no line");
+        let line = ends.get(k).map_or("no line", String::as_str);
         let sum = replay::counts_checksum(cells).to_string();
         // e, 0, closed, then the checksums of book, counts and findings
         if !line.starts_with("e 0 closed ") || line.split(' ').nth(4) != Some(&sum) {
@@ -253,5 +284,5 @@ fn through_replay(programs: &Programs, scratch: &Path, script: &Script, counts: 
     if text != replay::replay(&script.0).text || !output.status.success() {
         return Err(format!("replay differs from the reference; {}", output.status));
     }
-    Ok(())
+    Ok(ends)
 }

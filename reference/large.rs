@@ -1,6 +1,6 @@
 //! Logs of a million records over full tables, with as many findings as a million records can bring.
 use crate::build::{self, Day, Record, Total};
-use crate::cases::{clerk, BookFile, Case, Feed};
+use crate::cases::{clerk_expecting, BookFile, Case, Feed};
 use crate::edges::full_day;
 use crate::random::Random;
 
@@ -12,21 +12,25 @@ fn account_of(random: &mut Random, day: &Day, group: usize) -> u32 {
 }
 
 /// Five self-trades on each of the 2,048 ladders of kind 1, then large cancels that count twice: 100 on each ladder of
-/// kind 3, and 400 more on as many as there is room for, so that those reach kind 2 as well.
+/// kind 3, and 400 more on as many as there is room for, so that those reach kind 2 as well. Brokers go through all
+/// their numbers, again and again.
 fn records(random: &mut Random, day: &Day) -> Vec<Vec<u8>> {
     let ladders: Vec<(usize, u16)> = (1..=128).flat_map(|group| (0..16).map(move |f| (group, 101 + f))).collect();
     let mut all = Vec::with_capacity(MILLION + 1);
+    let mut brokers = (1..=u16::MAX).cycle();
+    let mut order = |instruction, purpose| (instruction, purpose, brokers.next().unwrap());
     for &(group, contract) in &ladders {
         for _ in 0..5 {
             let (buyer, seller) = (account_of(random, day, group), account_of(random, day, group));
-            all.push(Record::Trade { contract, buyer, seller, lots: 7, orders: [(1, 1), (5, 3)] }.bytes());
+            let orders = [order(1, 1), order(5, 3)];
+            all.push(Record::Trade { contract, buyer, seller, lots: 7, orders }.bytes(day.version));
         }
     }
     for times in [100, 400] {
         for &(group, contract) in &ladders {
             for _ in 0..times {
                 let account = account_of(random, day, group);
-                all.push(Record::Cancel { contract, account, lots: 800, order: (6, 1) }.bytes());
+                all.push(Record::Cancel { contract, account, lots: 800, order: order(6, 1) }.bytes(day.version));
             }
         }
     }
@@ -43,36 +47,42 @@ fn book() -> Vec<u8> {
 }
 
 /// The book and the log without its end record.
-pub fn million(random: &mut Random) -> (Vec<u8>, Vec<u8>) {
-    let day = full_day(2, 20240305);
+fn million(random: &mut Random, version: u16) -> (Vec<u8>, Vec<u8>) {
+    let day = Day { version, ..full_day(2, 20240305) };
     let mut log = day.tables();
     records(random, &day).iter().for_each(|record| log.extend(record));
     (book(), log)
 }
 
 /// The log as `time` runs it.
-pub fn million_log(random: &mut Random) -> (Vec<u8>, Vec<u8>) {
-    let (book, mut log) = million(random);
-    log.extend(build::end_record(MILLION as u32));
+pub fn million_log(random: &mut Random, version: u16) -> (Vec<u8>, Vec<u8>) {
+    let (book, mut log) = million(random, version);
+    log.extend(build::end_record(version, MILLION as u32));
     (book, log)
 }
 
+/// All tails after a log of version 1; in version 2 the first two, as each is a long run.
 pub fn large_cases(random: &mut Random) -> Vec<Case> {
-    let (book, log) = million(random);
-    let good = log[log.len() - 20..].to_vec();
+    [(1, 5), (2, 2)].into_iter().flat_map(|(version, tails)| with_tails(random, version, tails)).collect()
+}
+
+fn with_tails(random: &mut Random, version: u16, most: usize) -> Vec<Case> {
+    let (book, log) = million(random, version);
+    let good = log[log.len() - build::record_length(version)..].to_vec();
     let mut bad = good.clone();
     bad[0] = 9;
-    let end = build::end_record(MILLION as u32);
+    let end = build::end_record(version, MILLION as u32);
     let tails = [
-        ("a million records", end.clone()),
-        ("a million records and one", [good.clone(), build::end_record(MILLION as u32 + 1)].concat()),
-        ("a million records and a bad one", [bad, end.clone()].concat()),
-        ("a million records and a cut-off one", good[..19].to_vec()),
-        ("a million records and a byte after the end", [end, vec![0]].concat()),
+        ("a million records", end.clone(), 0),
+        ("a million records and one", [&good[..], &build::end_record(version, MILLION as u32 + 1)].concat(), 14),
+        ("a million records and a bad one", [bad, end.clone()].concat(), 11),
+        ("a million records and a cut-off one", good[..good.len() - 1].to_vec(), 1),
+        ("a million records and a byte after the end", [end, vec![0]].concat(), 1),
     ];
-    let with_tail = |(name, tail): (&str, Vec<u8>)| {
+    let with_tail = |(name, tail, number): (&str, Vec<u8>, u8)| {
         let whole = [&log[..], &tail].concat();
-        clerk(name, BookFile::Bytes(book.clone()), vec![(whole, Feed::Uneven)])
+        let name = format!("{name}, version {version}");
+        clerk_expecting(name, BookFile::Bytes(book.clone()), vec![(whole, Feed::Uneven)], vec![number])
     };
-    tails.into_iter().map(with_tail).collect()
+    tails.into_iter().take(most).map(with_tail).collect()
 }

@@ -1,13 +1,15 @@
 //! A second reading of document 01 in plain Rust, to hold the proved programs against. It shares nothing with them.
 //!
 //! The reading: `dates`, `rules`, `tables`, `book`, `refusal`, `calls` (the six calls), `clerk`, `replay`.
-//! The cases: `build` (data and its bytes), `days`, `scene` and `faults`; `edges`, `script_edges`, `clerk_edges`,
-//! `generate` (random ones), `large` (a million records); `years`, in which `join` joins two groups (demand 3).
+//! The cases: `build` (data and its bytes), `days`, `scene` and `faults`; `edges`, `broker_edges` (request K2),
+//! `script_edges`, `clerk_edges`, `generate` (random ones), `large` (a million records); `years`, in which `join` joins
+//! two groups (demand 3).
 //! The check: `run` (with a time limit), `parallel`, `compare`, `tally` (what was reached), `join_years`, `check`.
 //! Around a day: `ending` (passed, failed or left out), `stage` (an example in a folder), `failing` (the write-back
 //! made to fail), `permissions`, `newbook`, `unusable` (books and streams), `races` (two clerks at once), `starting`
 //! (`bin/run`), `signals`, `installed` (`bin/install`), `system_faults` (by strace). And `timing`.
 mod book;
+mod broker_edges;
 mod build;
 mod calls;
 mod cases;
@@ -54,7 +56,7 @@ use std::process::ExitCode;
 const USAGE: &str = "usage: reference clerk
        reference replay
        reference check SEED FRESH-SEED ROOT [WORDS BEFORE A PROGRAM]
-       reference time FOLDER PROGRAM [ITS WORDS]";
+       reference time VERSION FOLDER PROGRAM [ITS WORDS]";
 
 fn main() -> ExitCode {
     let words: Vec<String> = std::env::args().collect();
@@ -63,9 +65,10 @@ fn main() -> ExitCode {
         ["clerk"] => clerk::program(),
         ["replay"] => replay_program(),
         ["check", seed, fresh, root, ref before @ ..] => return check::check([seed, fresh], Path::new(root), before),
-        ["time", folder, ref theirs @ ..] if !theirs.is_empty() => {
+        ["time", version @ ("1" | "2"), folder, ref theirs @ ..] if !theirs.is_empty() => {
             let theirs: Vec<String> = theirs.iter().map(|word| word.to_string()).collect();
-            timing::time(Path::new(folder), &[words[0].clone(), "clerk".to_string()], &theirs)
+            let version = if version == "2" { 2 } else { 1 };
+            timing::time(Path::new(folder), version, &[words[0].clone(), "clerk".to_string()], &theirs)
         }
         _ => Err(io::Error::other(USAGE)),
     };

@@ -1,5 +1,5 @@
 //! The refusals of document 01. Two of its numbers stand at two places in an order: each place has a case of its
-//! own here, so that a run can show that both were reached.
+//! own here, so that a run can show that both were reached. So has the 11 of brokers (document 02, K2).
 
 #[derive(Clone, Copy, PartialEq, Eq, PartialOrd, Ord, Debug)]
 pub enum Refusal {
@@ -15,6 +15,7 @@ pub enum Refusal {
     NotLater,
     DayState,
     Record,
+    Brokers,
     NoContract,
     NoAccount,
     Full,
@@ -43,7 +44,7 @@ impl Refusal {
             Account => 8,
             NotLater => 9,
             DayState => 10,
-            Record => 11,
+            Record | Brokers => 11,
             NoContract => 12,
             NoAccount => 13,
             Full => 14,
@@ -60,6 +61,7 @@ impl Refusal {
     pub fn note(self) -> &'static str {
         match self {
             Short => " (under 16)",
+            Brokers => " (brokers)",
             TablesChanged => " (tables)",
             CellsChanged => " (cells)",
             _ => "",
@@ -67,40 +69,48 @@ impl Refusal {
     }
 }
 
-/// A call's order of refusals, as document 01 writes it.
+const OPEN: [Refusal; 14] = [
+    DayState,
+    Short,
+    Mark,
+    Version,
+    Rulebook,
+    Date,
+    Header,
+    Length,
+    Contract,
+    Account,
+    Book,
+    OtherRulebook,
+    NotLater,
+    Counts,
+];
+
+const TAKE: [Refusal; 10] =
+    [DayState, Length, Counts, TablesChanged, Record, Brokers, NoContract, NoAccount, Full, CellsChanged];
+
+const END: [Refusal; 12] = [
+    DayState,
+    Length,
+    Counts,
+    TablesChanged,
+    Record,
+    Brokers,
+    EndNumber,
+    Book,
+    OtherRulebook,
+    NotLater,
+    CellsChanged,
+    Findings,
+];
+
+/// A call's order of refusals, as document 01 writes it. The two of number 11 could stand either way round.
 pub fn order(call: &str) -> &'static [Refusal] {
     match call {
         "fresh" => &[Rulebook, Book],
-        "open" => &[
-            DayState,
-            Short,
-            Mark,
-            Version,
-            Rulebook,
-            Date,
-            Header,
-            Length,
-            Contract,
-            Account,
-            Book,
-            OtherRulebook,
-            NotLater,
-            Counts,
-        ],
-        "take" => &[DayState, Length, Counts, TablesChanged, Record, NoContract, NoAccount, Full, CellsChanged],
-        "end" => &[
-            DayState,
-            Length,
-            Counts,
-            TablesChanged,
-            Record,
-            EndNumber,
-            Book,
-            OtherRulebook,
-            NotLater,
-            CellsChanged,
-            Findings,
-        ],
+        "open" => &OPEN,
+        "take" => &TAKE,
+        "end" => &END,
         "abandon" => &[DayState],
         "ask" => &[Book, Asked],
         _ => panic!("no call {call}"),

@@ -1,6 +1,6 @@
 //! One call with all that it is handed, written out by hand in a script. Faults are put into scenes.
 use crate::build::{self, Account, Contract, Day, Record, Script, Total};
-use crate::days;
+use crate::days::{any_date, some_broker, some_version};
 use crate::random::Random;
 
 #[derive(Clone)]
@@ -14,10 +14,14 @@ pub struct Scene {
     pub counts: (u32, u32),
     pub cells: Vec<(u32, u32)>,
     pub findings: (u32, u8),
+    /// The version that the record is written in.
+    pub version: u16,
     pub record: Vec<u8>,
     pub fresh: u64,
     pub asked: [u64; 3],
 }
+
+pub type Change = Box<dyn Fn(&mut Scene)>;
 
 impl Scene {
     /// Sets everything, so that scenes in one script do not hang on each other.
@@ -86,16 +90,27 @@ impl Scene {
         self.day.as_ref().map_or(0, |day| day.1)
     }
 
+    /// The open day's header is changed, and the record has the length that goes with it.
+    pub fn change_day(&mut self, change: impl Fn(&mut [u8])) {
+        if let Some((head, _)) = &mut self.day {
+            change(head);
+            self.record.resize(build::record_length(u16::from_le_bytes([head[1], head[2]])), 0);
+        }
+    }
+
     /// The open day's header follows the tables: then only the tables' own checks can tell.
     pub fn follow_tables(&mut self) {
-        let taken = self.taken();
-        self.day = Some((self.tables[3..16].to_vec(), taken));
+        let head = self.tables[3..16].to_vec();
+        self.change_day(|day| day.copy_from_slice(&head));
     }
 
     /// The record becomes a trade with both orders alike, whatever another fault made of it.
     pub fn make_trade(&mut self) {
         self.record[0] = 1;
         self.record.copy_within(16..18, 18);
+        if let Some(brokers) = self.record.get_mut(20..24) {
+            brokers.copy_within(..2, 2);
+        }
     }
 
     /// The record becomes a cancel of the same contract, account and lots.
@@ -103,19 +118,21 @@ impl Scene {
         self.record[0] = 2;
         self.record[8..12].fill(0);
         self.record[18..20].fill(0);
+        self.set_record(22, &[0; 2]);
     }
 }
 
 /// Three contracts, four accounts: the first two in group 3, one in 128, one in 1. The scene's cell for a self-trade
 /// of group 3 on the second contract stands at 5, and seven records are taken.
-fn plain_day(random: &mut Random, rulebook: u8) -> Day {
-    let date = days::any_date(random).min(20991230);
+fn plain_day(random: &mut Random, rulebook: u8, version: u16) -> Day {
+    let date = any_date(random).min(20991230);
     let option = if rulebook == 1 { 2 } else { 1 };
     let contract = |id, contract_type, product| Contract { id, contract_type, product, largest: 1_000 };
     let account = |number, group, kind| Account { number, group, kind };
     let member = random.within(1, 2) as u8;
     Day {
         rulebook,
+        version,
         date,
         contracts: vec![contract(101, 1, 0), contract(102, 1, 1), contract(65_000, option, 15)],
         accounts: vec![account(11, 3, 1), account(12, 3, member), account(300, 128, 1), account(70_000, 1, 2)],
@@ -130,11 +147,16 @@ pub fn scene_cell(kind: u32) -> u32 {
 
 /// A scene in which each call but open and fresh is accepted; `for_call` names the one it is for.
 pub fn scene(random: &mut Random, for_call: &str) -> Scene {
-    let rulebook = random.within(1, 2) as u8;
-    let day = plain_day(random, rulebook);
+    let (rulebook, version) = (random.within(1, 2) as u8, some_version(random));
+    scene_of(random, for_call, rulebook, version)
+}
+
+pub fn scene_of(random: &mut Random, for_call: &str, rulebook: u8, version: u16) -> Scene {
+    let day = plain_day(random, rulebook, version);
     let taken = random.within(7, 400) as u32;
     let plain = if rulebook == 1 { 1 } else { 5 };
-    let trade = Record::Trade { contract: 102, buyer: 11, seller: 12, lots: 900, orders: [(plain, 1), (plain, 1)] };
+    let orders = [(); 2].map(|()| (plain, 1, some_broker(random)));
+    let trade = Record::Trade { contract: 102, buyer: 11, seller: 12, lots: 900, orders };
     let last_date = if day.date > 20240105 { 20240105 } else { 0 };
     let mut totals = Vec::new();
     if last_date != 0 {
@@ -142,7 +164,7 @@ pub fn scene(random: &mut Random, for_call: &str) -> Scene {
         totals.push((total.place() as u32, total.total));
     }
     let is_open = for_call != "open" && for_call != "fresh";
-    let record = if for_call == "end" { build::end_record(taken) } else { trade.bytes() };
+    let record = if for_call == "end" { build::end_record(version, taken) } else { trade.bytes(version) };
     Scene {
         day: is_open.then(|| (day.head(), taken)),
         tables: day.tables(),
@@ -152,8 +174,25 @@ pub fn scene(random: &mut Random, for_call: &str) -> Scene {
         counts: (12_288, random.pick(&[0, 1, 4])),
         cells: vec![(scene_cell(1), 5)],
         findings: (random.pick(&[8, 9, 80]), random.next() as u8),
+        version,
         record,
         fresh: rulebook as u64,
         asked: [3, 1, 0],
     }
+}
+
+/// Scenes in one script, each with a change of its own.
+pub fn changed_scenes<'a>(
+    random: &mut Random,
+    call: &str,
+    (rulebook, version): (u8, u16),
+    changes: impl IntoIterator<Item = &'a Change>,
+) -> Script {
+    let mut script = Script::default();
+    for change in changes {
+        let mut scene = scene_of(random, call, rulebook, version);
+        change(&mut scene);
+        scene.call(call, &mut script);
+    }
+    script
 }

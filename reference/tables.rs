@@ -4,7 +4,17 @@ use crate::refusal::Refusal;
 
 pub const HEADER: usize = 16;
 pub const ENTRY: usize = 8;
-pub const RECORD: usize = 20;
+/// Where a record's brokers are, in version 2. The other bytes are the same in both versions.
+const BROKERS: usize = 20;
+
+/// A version that opening refuses can stand in a state made by hand: then a record has no brokers.
+pub fn record_length(version: u16) -> usize {
+    if version == 2 {
+        BROKERS + 4
+    } else {
+        BROKERS
+    }
+}
 
 pub fn read16(bytes: &[u8], at: usize) -> u16 {
     u16::from_le_bytes([bytes[at], bytes[at + 1]])
@@ -56,7 +66,7 @@ fn check_header(bytes: &[u8]) -> Result<Header, Refusal> {
     if bytes[..3] != *b"AXD" {
         return Err(Refusal::Mark);
     }
-    if header.version != 1 {
+    if header.version != 1 && header.version != 2 {
         return Err(Refusal::Version);
     }
     if header.rulebook != 1 && header.rulebook != 2 {
@@ -173,7 +183,7 @@ fn account_of(entry: &[u8; ENTRY]) -> Account {
     Account { group: entry[4], is_member: entry[5] == 2 }
 }
 
-/// A record's own fields as bytes 0..19 give them.
+/// A record's own fields as bytes 0..19 give them. Nothing is counted by brokers, so they are not kept.
 pub struct Record {
     pub is_trade: bool,
     pub contract: u16,
@@ -183,8 +193,8 @@ pub struct Record {
     pub orders: [(u8, u8); 2],
 }
 
-/// A trade or a cancel whose own fields are good.
-pub fn record(bytes: &[u8], rulebook: u8) -> Option<Record> {
+/// A trade or a cancel whose own fields are good, of the length that its version has.
+pub fn record(bytes: &[u8], rulebook: u8) -> Result<Record, Refusal> {
     let record = Record {
         is_trade: bytes[0] == 1,
         contract: read16(bytes, 2),
@@ -199,7 +209,18 @@ pub fn record(bytes: &[u8], rulebook: u8) -> Option<Record> {
         _ => false,
     };
     let lots_are_good = (1..=1_000_000).contains(&record.lots);
-    (bytes[1] == 0 && lots_are_good && is_order(rulebook, record.orders[0]) && second_is_good).then_some(record)
+    if bytes[1] != 0 || !lots_are_good || !is_order(rulebook, record.orders[0]) || !second_is_good {
+        return Err(Refusal::Record);
+    }
+    if !brokers_are_good(&bytes[BROKERS..], record.is_trade) {
+        return Err(Refusal::Brokers);
+    }
+    Ok(record)
+}
+
+/// Each order has a broker, and a cancel has one order. Version 1 has no brokers.
+fn brokers_are_good(brokers: &[u8], is_trade: bool) -> bool {
+    brokers.is_empty() || (read16(brokers, 0) != 0 && (read16(brokers, 2) != 0) == is_trade)
 }
 
 fn is_order(rulebook: u8, (instruction, purpose): (u8, u8)) -> bool {
@@ -211,7 +232,13 @@ fn is_order(rulebook: u8, (instruction, purpose): (u8, u8)) -> bool {
 }
 
 /// The number in an end record whose type and zero bytes are good.
-pub fn end_number(bytes: &[u8]) -> Option<u32> {
-    let rest_is_zero = bytes[1..4].iter().chain(&bytes[8..]).all(|&byte| byte == 0);
-    (bytes[0] == 3 && rest_is_zero).then(|| read32(bytes, 4))
+pub fn end_number(bytes: &[u8]) -> Result<u32, Refusal> {
+    let is_zero = |part: &[u8]| part.iter().all(|&byte| byte == 0);
+    if bytes[0] != 3 || !is_zero(&bytes[1..4]) || !is_zero(&bytes[8..BROKERS]) {
+        return Err(Refusal::Record);
+    }
+    if !is_zero(&bytes[BROKERS..]) {
+        return Err(Refusal::Brokers);
+    }
+    Ok(read32(bytes, 4))
 }

@@ -12,11 +12,13 @@ pub struct Tally {
 
 /// What a run of the clerk can stop at: 10, 16, 19 and 20 cannot come up, as its buffers are its own.
 fn clerk_stops() -> Vec<(&'static str, u8, &'static str)> {
-    let mut all = vec![("accepted", 0, "")];
+    let mut all = vec![("accepted", 0, " (version 1)"), ("accepted", 0, " (version 2)")];
     let own = [Refusal::DayState, Refusal::Counts];
     all.extend(order("open").iter().filter(|r| !own.contains(r)).map(|r| ("open", r.number(), r.note())));
-    all.extend([11, 12, 13, 14].map(|number| ("take", number, "")));
-    all.extend([11, 15].map(|number| ("end", number, "")));
+    for (call, numbers) in [("take", &[11, 12, 13, 14][..]), ("end", &[11, 15][..])] {
+        all.extend(numbers.iter().map(|&number| (call, number, "")));
+        all.push((call, Refusal::Brokers.number(), Refusal::Brokers.note()));
+    }
     all.extend([" (cut-off record)", " (no end record)", " (bytes after the end)"].map(|note| ("log", 1, note)));
     all
 }

@@ -30,9 +30,9 @@ fn median(mut times: Vec<f64>) -> f64 {
 }
 
 /// `ours` and `theirs` are the words that start either program. The log stays in the folder, to be run by hand.
-pub fn time(folder: &Path, ours: &[String], theirs: &[String]) -> io::Result<()> {
+pub fn time(folder: &Path, version: u16, ours: &[String], theirs: &[String]) -> io::Result<()> {
     fs::create_dir_all(folder)?;
-    let (book, log) = million_log(&mut Random::of_case(1, 0));
+    let (book, log) = million_log(&mut Random::of_case(1, 0), version);
     fs::write(folder.join("log"), &log)?;
     let (mut plain, mut given) = (Vec::new(), Vec::new());
     for run in 1..=RUNS {
@@ -46,7 +46,7 @@ pub fn time(folder: &Path, ours: &[String], theirs: &[String]) -> io::Result<()>
         given.push(b);
     }
     let (plain, given) = (median(plain), median(given));
-    println!("1,000,000 records, 32 contracts, 512 accounts; medians of {RUNS} runs each, in turn");
+    println!("1,000,000 records, version {version}, 32 contracts, 512 accounts; medians of {RUNS} runs each, in turn");
     println!("plain Rust {plain:.3} s, given {given:.3} s, given / plain = {:.2}", given / plain);
     Ok(())
 }

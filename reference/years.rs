@@ -1,7 +1,7 @@
 //! Years of accepted days from a fresh book in which two groups offend, each alone and only together, among others.
 use crate::build::{Account, Contract, Day, Record};
 use crate::dates;
-use crate::days::{some_lots, some_order, some_record, GROUPS, LARGEST};
+use crate::days::{some_broker, some_lots, some_order, some_record, some_version, GROUPS, LARGEST};
 use crate::random::Random;
 use crate::rules;
 
@@ -128,7 +128,8 @@ fn some_day(random: &mut Random, cast: &Cast, date: u32) -> Day {
         let i = random.below(accounts.len());
         accounts[i].group = random.pick(&cast.groups);
     }
-    let mut day = Day { rulebook: cast.rulebook, date, contracts, accounts, records: Vec::new() };
+    let (rulebook, version) = (cast.rulebook, some_version(random));
+    let mut day = Day { rulebook, version, date, contracts, accounts, records: Vec::new() };
     for (kind, contract) in &cast.habits {
         if day.contracts.iter().any(|listed| listed.id == contract.id) {
             offend(random, cast, &mut day, *kind, contract);
@@ -191,17 +192,18 @@ fn counted(random: &mut Random, rulebook: u8, accounts: &[u32], kind: usize, con
     let (account, seller) = (random.pick(accounts), random.pick(accounts));
     let (id, lots) = (contract.id, some_lots(random, contract.largest));
     let fast = if rulebook == 1 { 1 } else { random.pick(&[5, 6]) };
+    let [first, second] = [(); 2].map(|()| some_broker(random));
     match kind {
-        1 => Record::Trade { contract: id, buyer: account, seller, lots, orders: [(1, 1), (fast, 4)] },
+        1 => Record::Trade { contract: id, buyer: account, seller, lots, orders: [(1, 1, first), (fast, 4, second)] },
         2 => {
             // market making counts in futures of rulebook 1 alone
             let is_dce_future = rulebook == 1 && contract.contract_type == 1;
             let purpose = if is_dce_future { random.pick(&[1, 4]) } else { 1 };
-            Record::Cancel { contract: id, account, lots, order: (fast, purpose) }
+            Record::Cancel { contract: id, account, lots, order: (fast, purpose, first) }
         }
         _ => {
-            let order = random.pick(&[(1, 1), (1, 4), (fast, 1)]);
-            Record::Cancel { contract: id, account, lots: contract.largest, order }
+            let (instruction, purpose) = random.pick(&[(1, 1), (1, 4), (fast, 1)]);
+            Record::Cancel { contract: id, account, lots: contract.largest, order: (instruction, purpose, first) }
         }
     }
 }
@@ -214,7 +216,11 @@ fn trade_between(random: &mut Random, day: &mut Day, mut groups: [u8; 2], contra
         return;
     }
     for _ in 0..random.within(1, 3) {
-        let orders = if random.one_in(2) { [(1, 1); 2] } else { [(); 2].map(|()| some_order(random, day.rulebook)) };
+        let is_plain = random.one_in(2);
+        let orders = [(); 2].map(|()| match some_order(random, day.rulebook) {
+            (_, _, broker) if is_plain => (1, 1, broker),
+            order => order,
+        });
         let (buyer, seller) = (random.pick(&buyers), random.pick(&sellers));
         let record = Record::Trade { contract: contract.id, buyer, seller, lots: 1, orders };
         day.records.push((record, random.within(1, 3) as u32));

@@ -77,8 +77,8 @@ pub record Resent (w w′ : Desk) (cs cs′ : List Step) (gs gs′ : List Given)
   pub ran : Ran w cs gs
   pub ran′ : Ran w′ cs′ gs′
 
--- what is told of a step: the refusal's number, the values of an accepted call, and book and findings as bytes. The
--- state alone is left out, which holds the version
+-- what is told of a step: the refusal's number, the values of an accepted call, and book and findings as bytes. Left
+-- out are the state, which holds the version, and the lent counts, of which specs/Lent speaks
 pub record Told : Type 0 where
   pub number : ℕ
   pub values : List ℕ

@@ -26,7 +26,7 @@ use Rattle.tables.specs.Way.{foundAccount}
 use Rattle.tables.proofs.Search.{found-length, found-group}
 use Rattle.counts.specs.declared.weigh.Plan.{Plan}
 use Rattle.counts.specs.declared.weigh.Weighed.the-variants.{Counts, Refused}
-use Rattle.counts.specs.Counting.{exempt1, exempt2, frequentCancel, largeCancel, planFor, planOf}
+use Rattle.counts.specs.Counting.{planFor, planOf}
 use Rattle.counts.specs.Counting.{fieldsFault, weighed}
 
 -- ---- what the searches say
@@ -116,40 +116,11 @@ module _ (t : Tables) (r : Record) (good : recordGood (t .text) r ≡ true)
   pub second-none : (r .sort ≡ 1 → ⊥) → 0 ≡ fieldsFault t r
   second-none n = second-decides 0 (pick-no _ _ _ _ (and-no (eqb (r .sort) 1) _ (ne-eqb (r .sort) 1 n)) refl)
 
--- ---- the plan, of a trade and of a cancel
-module _ (text : Text) (e : Contract) (r : Record) (place group : ℕ) where
-  -- a trade counts as a self-trade alone
-  abbrev trade : ℕ → Plan
-  trade group2 = record {
-    group = group;
-    place = place;
-    own = eqb group group2 && not (exempt1 text e r 1) && not (exempt2 text e r 1);
-    frequent = false;
-    over = false;
-  }
-
-  -- a cancel counts as one frequent cancel, as one large cancel, or both
-  abbrev cancel : Plan
-  cancel = record {
-    group = group;
-    place = place;
-    own = false;
-    frequent = frequentCancel text e r;
-    over = largeCancel text e r;
-  }
-
-  -- the plan says so, as the sort decides every test
-  pub trade-plan : (group2 : ℕ) → r .sort ≡ 1 → trade group2 ≡ planFor text e r place group group2
-  unfolding planFor
-  trade-plan group2 s = rw s
-
-  pub cancel-plan : (group2 : ℕ) → (r .sort ≡ 1 → ⊥) → cancel ≡ planFor text e r place group group2
-  unfolding planFor
-  cancel-plan group2 n = rw (ne-eqb (r .sort) 1 n)
-
-  -- a cancel has no second group
-  pub no-second : (a b : ℕ) → (r .sort ≡ 1 → ⊥) → planFor text e r place group a ≡ planFor text e r place group b
-  no-second a b n = sym (cancel-plan a n) ∙ cancel-plan b n
+-- a cancel has no second group
+no-second : (text : Text) (e : Contract) (r : Record) (place group a b : ℕ) → (r .sort ≡ 1 → ⊥)
+    → planFor text e r place group a ≡ planFor text e r place group b
+unfolding planFor
+no-second text e r place group a b n = rw (ne-eqb (r .sort) 1 n)
 
 -- ---- the plan of a record from what was looked up
 module _ (t : Tables) (r : Record) (e : Contract) (place group : ℕ)

@@ -24,7 +24,7 @@ ghost use Prim.Native.Nat.{_≤_};
 ghost use lib.ListN.{length};
 ghost use Rattle.tables.specs.Accounts.{accountsGood};
 ghost use Rattle.tables.specs.Tables.{tablesIn};
-ghost use Rattle.counts.specs.Counting.{planFor, weighed};
+ghost use Rattle.counts.specs.Counting.{selfTrade, frequentCancel, largeCancel, planFor, weighed};
 ghost use Rattle.counts.specs.Weigh.{weighedOn};
 
 // The group and the contract's place for which a record counts, and as which kinds.
@@ -42,30 +42,53 @@ pub enum Weighed {
     Refused(u32),
 }
 
-fn plan_for(text: Text, e: Contract, r: Record, place: u16, group: u8, group2: u8) -> Plan
-    ensures { λ a. ⌜ a ≡ planFor text e r place group group2 ⌝ }
+// A trade within one group, of which neither order is exempt. They are looked up only where there is one group.
+fn is_self_trade(text: Text, e: Contract, r: Record, group: u8, group2: u8) -> bool
+    ensures { λ a. ⌜ a ≡ selfTrade text e r group group2 ⌝ }
 {
-    if r.sort == 1 {
-        let buys = is_exempt(text, e.sort, 1, r.instruction, r.purpose);
-        let sells = is_exempt(text, e.sort, 1, r.instruction2, r.purpose2);
-        return Plan {
-            group,
-            place,
-            own: (group == group2) & !buys & !sells,
-            frequent: false,
-            over: false,
-        };
+    if r.sort != 1 {
+        return false;
+    }
+    if group != group2 {
+        return false;
+    }
+    !is_exempt(text, e.sort, 1, r.instruction, r.purpose)
+        & !is_exempt(text, e.sort, 1, r.instruction2, r.purpose2)
+}
+
+fn is_frequent_cancel(text: Text, e: Contract, r: Record) -> bool
+    ensures { λ a. ⌜ a ≡ frequentCancel text e r ⌝ }
+{
+    if r.sort != 2 {
+        return false;
+    }
+    !is_exempt(text, e.sort, 2, r.instruction, r.purpose)
+}
+
+// The order is looked up only where the cancel is large.
+fn is_large_cancel(text: Text, e: Contract, r: Record) -> bool
+    ensures { λ a. ⌜ a ≡ largeCancel text e r ⌝ }
+{
+    if r.sort != 2 {
+        return false;
     }
     let lots = r.lots;
     let largest = e.largest;
+    if !is_large(text, lots, largest) {
+        return false;
+    }
+    !is_exempt(text, e.sort, 3, r.instruction, r.purpose)
+}
+
+fn plan_for(text: Text, e: Contract, r: Record, place: u16, group: u8, group2: u8) -> Plan
+    ensures { λ a. ⌜ a ≡ planFor text e r place group group2 ⌝ }
+{
     Plan {
         group,
         place,
-        own: false,
-        frequent: (r.sort == 2) & !is_exempt(text, e.sort, 2, r.instruction, r.purpose),
-        over: (r.sort == 2)
-            & is_large(text, lots, largest)
-            & !is_exempt(text, e.sort, 3, r.instruction, r.purpose),
+        own: is_self_trade(text, e, r, group, group2),
+        frequent: is_frequent_cancel(text, e, r),
+        over: is_large_cancel(text, e, r),
     }
 }
 

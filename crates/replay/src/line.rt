@@ -1,4 +1,5 @@
 // The line after a call: its letter, the refusal's number, the state, the buffers' checksums, and what else it told.
+// The exemption test, which is no call, has a line of its own.
 use daylog::header::Header;
 use desk::state::State;
 use files::output::put_all;
@@ -19,6 +20,13 @@ fn put(text: &[u8]) -> bool {
 
 pub(crate) fn bad() -> bool {
     put(b"bad script\n")
+}
+
+pub(crate) fn print_exemption(is_spared: bool) -> bool {
+    if is_spared {
+        return put(b"x 1\n");
+    }
+    put(b"x 0\n")
 }
 
 fn say(n: u64) -> bool {

@@ -35,6 +35,7 @@ fn wanted(rest: &[u8]) -> usize
         b'N' | b'o' | b'a' => 1,
         b'B' => 5,
         b'F' => 6,
+        b'x' => 7,
         b'C' | b'c' | b'f' => 9,
         b'S' => 18,
         b'q' => 25,

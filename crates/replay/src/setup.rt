@@ -1,5 +1,6 @@
 // What a script has set up: the state, and how much of each buffer is in use; and the steps that change it.
 use crate::call::Called;
+use crate::exemption;
 use crate::script::bytes_from;
 use crate::script::get_length;
 use daylog::header::Header;
@@ -52,7 +53,7 @@ pub(crate) fn broken(s: Setup) -> Step
     }
 }
 
-fn changed(one: &[u8], s: Setup) -> Step
+pub(crate) fn changed(one: &[u8], s: Setup) -> Step
     requires { ⌜ Within s ⌝ }
     ensures { λ r. ⌜ Within (r .setup) × (r .used ≡ length (now (one .entry))) ⌝ }
 {
@@ -209,7 +210,7 @@ fn set_tables(one: &[u8], s: Setup, tables: &mut [u8]) -> Step
     changed(one, next)
 }
 
-// A step that is no call. Its letter is one that a script has.
+// A step that is no call: what it sets up, or asks of the rules. Its letter is one that a script has.
 pub(crate) fn change(
     one: &[u8],
     s: Setup,
@@ -232,6 +233,7 @@ pub(crate) fn change(
         b'B' => set_book(one, s, book),
         b'b' => write_book(one, s, book),
         b'T' => set_tables(one, s, tables),
+        b'x' => exemption::ask(one, s),
         _ => broken(s),
     }
 }

@@ -2,5 +2,6 @@ pub mod Choices
 pub mod Kinds
 pub mod Codes
 pub mod Exemption
+pub mod Sheet
 pub mod Measure
 pub mod Ladders

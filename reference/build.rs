@@ -218,6 +218,11 @@ impl Script {
         self.step(b'q', &[], &asked.map(u64::to_le_bytes).concat());
     }
 
+    /// The exemption test: rulebook, edition, contract type, kind, instruction, purpose.
+    pub fn exemption(&mut self, codes: [u8; 6]) {
+        self.step(b'x', &[], &codes);
+    }
+
     /// A whole day by calls.
     pub fn day(&mut self, day: &Day) {
         self.tables(&day.tables());

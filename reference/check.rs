@@ -16,6 +16,8 @@ use crate::races::races;
 use crate::random::Random;
 use crate::run::Programs;
 use crate::script_edges::script_edges;
+use crate::sheet::sheet;
+use crate::sheet_edges::sheet_edges;
 use crate::signals::signals;
 use crate::stage::{Example, Stage};
 use crate::starting::starting;
@@ -47,6 +49,7 @@ impl Score {
 fn cases_of(seed: u64) -> Vec<Case> {
     let mut all = edges(&mut Random::of_case(seed, 1));
     all.extend(broker_edges(&mut Random::of_case(seed, 4)));
+    all.extend(sheet_edges());
     all.extend(script_edges());
     all.extend(clerk_edges(&mut Random::of_case(seed, 2)));
     all.extend((0..RANDOM_CASES).map(|i| random_case(&mut Random::of_case(seed, 1_000 + i as u64), i)));
@@ -155,6 +158,7 @@ fn check_each(title: &str, results: Vec<(impl Display, impl Into<Ending>)>, scor
 fn check_around(stage: &Stage, score: &mut Score) {
     check_each("the write-back made to fail", failing(stage), score);
     check_each("a fresh book by newbook", newbook(stage), score);
+    check_each("the exemptions as a sheet", sheet(stage), score);
     check_each("books and streams that cannot be used", unusable(stage), score);
     check_each("two clerks at once", races(stage), score);
     check_each("bin/run", starting(stage), score);

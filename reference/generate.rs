@@ -107,6 +107,7 @@ fn disturb(random: &mut Random, script: &mut Script, day: &Day) {
         7 => script.tables(&damage(random, day.tables())),
         8 => script.tables(&some_day(random, day.rulebook, day.date, 1).tables()),
         9 => script.fresh(random.below(4) as u64),
+        15 => script.exemption(some_codes(random)),
         10 => script.book_bytes(random.below(12_304) as u32, &[random.pick(&[0, 1, 255])]),
         11 => script.findings(random.pick(&[0, 7, 8, 15, 16, 80]), 1),
         12 => script.take(&some_record(random, day).bytes(3 - day.version)),
@@ -121,6 +122,13 @@ fn disturb(random: &mut Random, script: &mut Script, day: &Day) {
         }
         _ => {}
     }
+}
+
+/// Codes of the lists and one on either side; sometimes an edition that there is not.
+fn some_codes(random: &mut Random) -> [u8; 6] {
+    let edition = random.one_in(4) as usize;
+    let most = [(0, 3), (edition, edition), (0, 3), (0, 4), (0, 7), (0, 5)];
+    most.map(|(low, high)| random.within(low, high) as u8)
 }
 
 /// Scenes with no fault to three, of any call.

@@ -3,6 +3,7 @@ use crate::book;
 use crate::cases::Feed;
 use crate::ending::{unless, Endings};
 use crate::run::{command, run};
+use crate::sheet;
 use crate::stage::{empty_folder, has_status, prints, text, Example, Stage};
 use std::fs;
 use std::path::Path;
@@ -54,7 +55,7 @@ fn start(desk: &Path, folder: &Path, words: &[&str], input: &[u8]) -> Result<Out
     run(command, folder, input, Feed::Pipe).map_err(text)
 }
 
-/// A fresh book, and the sample day on it.
+/// A fresh book, the sample day on it, and the sheet of exemptions.
 fn day(stage: &Stage, desk: &Path) -> Result<(), String> {
     let folder = empty_folder(stage.folder, "installed")?;
     let mut fresh = vec![0; book::LENGTH];
@@ -65,5 +66,6 @@ fn day(stage: &Stage, desk: &Path) -> Result<(), String> {
     has_status(&made, 0)?;
     let example = Example::of(&fresh, log);
     example.is_kept(&folder)?;
-    example.is_done(&start(desk, &folder, &["clerk"], &example.log)?, &folder)
+    example.is_done(&start(desk, &folder, &["clerk"], &example.log)?, &folder)?;
+    prints(&start(desk, &folder, &["sheet"], &[])?, &sheet::page([0; 5]))
 }

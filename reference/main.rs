@@ -2,12 +2,12 @@
 //!
 //! The reading: `dates`, `rules`, `tables`, `book`, `refusal`, `calls` (the six calls), `clerk`, `replay`.
 //! The cases: `build` (data and its bytes), `days`, `scene` and `faults`; `edges`, `broker_edges` (request K2),
-//! `script_edges`, `clerk_edges`, `generate` (random ones), `large` (a million records); `years`, in which `join` joins
-//! two groups (demand 3).
+//! `sheet_edges` (K3), `script_edges`, `clerk_edges`, `generate` (random ones), `large` (a million records); `years`,
+//! in which `join` joins two groups (demand 3).
 //! The check: `run` (with a time limit), `parallel`, `compare`, `tally` (what was reached), `join_years`, `check`.
 //! Around a day: `ending` (passed, failed or left out), `stage` (an example in a folder), `failing` (the write-back
-//! made to fail), `permissions`, `newbook`, `unusable` (books and streams), `races` (two clerks at once), `starting`
-//! (`bin/run`), `signals`, `installed` (`bin/install`), `system_faults` (by strace). And `timing`.
+//! made to fail), `permissions`, `newbook`, `sheet`, `unusable` (books and streams), `races` (two clerks at once),
+//! `starting` (`bin/run`), `signals`, `installed` (`bin/install`), `system_faults` (by strace). And `timing`.
 mod book;
 mod broker_edges;
 mod build;
@@ -39,6 +39,8 @@ mod rules;
 mod run;
 mod scene;
 mod script_edges;
+mod sheet;
+mod sheet_edges;
 mod signals;
 mod stage;
 mod starting;

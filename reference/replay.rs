@@ -1,6 +1,7 @@
 //! The replay interpreter: a script of calls, a line after each.
 use crate::calls::{self, Day, State};
 use crate::refusal::Refusal;
+use crate::rules;
 use crate::tables::Header;
 use std::fmt::Write;
 
@@ -62,9 +63,10 @@ impl<'a> Script<'a> {
     }
 }
 
-/// A step's line: nothing for a step that makes no call.
+/// A step's line: nothing for a step that sets something up.
 enum Step {
     Quiet,
+    Exemption(bool),
     Call { letter: char, call: &'static str, answer: Result<String, Refusal> },
 }
 
@@ -84,6 +86,10 @@ pub fn replay(script: &[u8]) -> Outcome {
                 break;
             }
             Some(Step::Quiet) => {}
+            Some(Step::Exemption(is_spared)) => {
+                outcome.steps.push(at);
+                writeln!(outcome.text, "x {}", is_spared as u8).unwrap();
+            }
             Some(Step::Call { letter, call, answer }) => {
                 outcome.steps.push(at);
                 outcome.reached.push((call, answer.as_ref().err().copied()));
@@ -104,6 +110,7 @@ impl Machine {
         let letter = script.byte()?;
         match letter {
             b'f' | b'o' | b't' | b'm' | b'e' | b'a' | b'q' => self.call(letter as char, script),
+            b'x' => Some(Step::Exemption(rules::is_spared(script.bytes(6)?.try_into().unwrap()))),
             _ => self.set(letter, script).map(|()| Step::Quiet),
         }
     }

@@ -20,6 +20,35 @@ pub fn is_exempt(rulebook: u8, contract_type: u8, kind: usize, instruction: u8, 
     }
 }
 
+/// The last contract type that a rulebook has: options are DCE's alone.
+pub fn last_type(rulebook: u8) -> u8 {
+    if rulebook == 1 {
+        2
+    } else {
+        1
+    }
+}
+
+/// Whether a rulebook has an order's codes. Rulebook 2 has no stop and no arbitrage order.
+pub fn is_order(rulebook: u8, (instruction, purpose): (u8, u8)) -> bool {
+    let has_instruction = match rulebook {
+        1 => (1..=6).contains(&instruction),
+        _ => matches!(instruction, 1 | 2 | 5 | 6),
+    };
+    has_instruction && (1..=4).contains(&purpose)
+}
+
+/// The exemption test of any codes: rulebook, edition, contract type, kind, instruction and purpose. Codes that the
+/// rulebook does not have are held as exempt (K3), and there is no edition but 0.
+pub fn is_spared([rulebook, edition, contract_type, kind, instruction, purpose]: [u8; 6]) -> bool {
+    let is_known = (1..=2).contains(&rulebook)
+        && edition == 0
+        && (1..=last_type(rulebook)).contains(&contract_type)
+        && (1..=KINDS).contains(&(kind as usize))
+        && is_order(rulebook, (instruction, purpose));
+    !is_known || is_exempt(rulebook, contract_type, kind as usize, instruction, purpose)
+}
+
 /// By multiplying: four fifths are never rounded. Lots and largest orders are at most 1,000,000.
 pub fn is_large(rulebook: u8, lots: u32, largest: u32) -> bool {
     if rulebook == 1 {

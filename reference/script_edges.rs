@@ -57,13 +57,13 @@ fn places() -> Vec<Case> {
 }
 
 fn letters() -> Vec<Case> {
-    let unknown = [b' ', b'\n', b'0', b'n', b's', b'A', b'Q', b'x', 0, 255];
+    let unknown = [b' ', b'\n', b'0', b'n', b's', b'A', b'Q', b'X', 0, 255];
     unknown.map(|letter| around(format!("letter {letter}"), |s| s.0.push(letter))).into()
 }
 
 /// A script with every letter, cut after every byte of its last step.
 fn cut_steps() -> Vec<Case> {
-    let steps: [&dyn Fn(&mut Script); 14] = [
+    let steps: [&dyn Fn(&mut Script); 15] = [
         &|s| s.opened(&[1; 13], 7),
         &|s| s.counts(10, 1),
         &|s| s.count(0, 5),
@@ -76,6 +76,7 @@ fn cut_steps() -> Vec<Case> {
         &|s| s.take_often(2, &[1; 20]),
         &|s| s.end(&[3; 20]),
         &|s| s.ask([1, 1, 0]),
+        &|s| s.exemption([1, 0, 1, 1, 1, 1]),
         &|s| s.open(),
         &|s| s.abandon(),
     ];

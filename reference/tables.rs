@@ -1,6 +1,7 @@
 //! The day log's header, its two tables and its records (document 01, "Layouts").
 use crate::dates;
 use crate::refusal::Refusal;
+use crate::rules::{is_order, last_type};
 
 pub const HEADER: usize = 16;
 pub const ENTRY: usize = 8;
@@ -84,11 +85,11 @@ fn check_header(bytes: &[u8]) -> Result<Header, Refusal> {
 
 /// One pass with one branch an entry: a take passes over sound entries as good as always.
 fn contracts_are_sound(entries: &[[u8; ENTRY]], rulebook: u8) -> bool {
-    let last_type = if rulebook == 1 { 2 } else { 1 };
+    let types = 1..=last_type(rulebook);
     let mut last = 0;
     for &[i, d, contract_type, product, l, a, r, g] in entries {
         let (id, largest) = (u16::from_le_bytes([i, d]), u32::from_le_bytes([l, a, r, g]));
-        let is_known = (1..=last_type).contains(&contract_type) & (product <= 15);
+        let is_known = types.contains(&contract_type) & (product <= 15);
         if !((id > last) & is_known & (1..=1_000_000).contains(&largest)) {
             return false;
         }
@@ -221,14 +222,6 @@ pub fn record(bytes: &[u8], rulebook: u8) -> Result<Record, Refusal> {
 /// Each order has a broker, and a cancel has one order. Version 1 has no brokers.
 fn brokers_are_good(brokers: &[u8], is_trade: bool) -> bool {
     brokers.is_empty() || (read16(brokers, 0) != 0 && (read16(brokers, 2) != 0) == is_trade)
-}
-
-fn is_order(rulebook: u8, (instruction, purpose): (u8, u8)) -> bool {
-    let has_instruction = match rulebook {
-        1 => (1..=6).contains(&instruction),
-        _ => matches!(instruction, 1 | 2 | 5 | 6),
-    };
-    has_instruction && (1..=4).contains(&purpose)
 }
 
 /// The number in an end record whose type and zero bytes are good.

@@ -5,6 +5,7 @@ use mathlib.Core.Bool.{Bool}
 use Prim.Native.Nat.{ℕ}
 use Rattle.book.specs.declared.shape.Shape.{Shape}
 use Rattle.book.specs.declared.ask.Asked.{Asked}
+use Rattle.book.proofs.sound.is_marked.Reads as is-marked
 use Rattle.book.proofs.sound.is_sound_as.Reads as is-sound-as
 use Rattle.book.proofs.sound.rulebook_of.Reads as rulebook-of
 use Rattle.book.proofs.sound.shape_of.Reads as shape-of
@@ -12,6 +13,10 @@ use Rattle.book.proofs.sound.last_date.Reads as last-date
 use Rattle.book.proofs.ask.ask_as.Reads as ask-as
 use Rattle.book.proofs.fits.fits_fault.Reads as fits-fault
 use Rattle.book.proofs.shape.day_shape.Reads as day-shape
+
+pub is-marked-unique : (κs : _) (a : _) (r₁ r₂ : Bool) (s₁ s₂ : _)
+    → is-marked.Post κs a r₁ s₁ → is-marked.Post κs a r₂ s₂ → r₁ ≡ r₂
+is-marked-unique κs a r₁ r₂ s₁ s₂ p q = p ∙ sym q
 
 pub is-sound-as-unique : (κs : _) (a : _) (r₁ r₂ : Bool) (s₁ s₂ : _)
     → is-sound-as.Post κs a r₁ s₁ → is-sound-as.Post κs a r₂ s₂ → r₁ ≡ r₂

@@ -14,7 +14,8 @@ ghost use Rattle.book.specs.Shape.{rulebookOf, shapeOf};
 ghost use Rattle.book.specs.Sound.{markGood, headGood, mostOf, totalsGood, soundAs};
 ghost use Rattle.book.specs.Layout.{lastDate};
 
-fn mark_good(letter: u8, b: &[u8]) -> bool
+// Whether it begins with a letter's mark: a book, or a log.
+pub fn is_marked(letter: u8, b: &[u8]) -> bool
     ensures { λ r. ⌜ r ≡ markGood letter (now (b .entry)) ⌝ }
 {
     (get8(b, 0) == MARK[0]) & (get8(b, 1) == MARK[1]) & (get8(b, 2) == letter)
@@ -25,7 +26,7 @@ fn head_good(letter: u8, b: &[u8]) -> bool
     ensures { λ r. ⌜ r ≡ headGood letter (now (b .entry)) ⌝ }
 {
     let date = get32(b, 6);
-    mark_good(letter, b)
+    is_marked(letter, b)
         & is_rulebook(get8(b, 3) as u64)
         & (get16(b, 4) == 1)
         & (get16(b, 10) == 0)

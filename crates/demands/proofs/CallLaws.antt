@@ -17,6 +17,7 @@ use Rattle.daylog.specs.Records.{recordOf}
 use Rattle.book.specs.Fits.{bookFault}
 use Rattle.verdict.specs.Verdict.{Verdict, foundCount}
 use Rattle.verdict.specs.Settle.{written}
+use Rattle.years.specs.Days.{blankAs}
 use Rattle.desk.specs.declared.state.State.{State}
 use Rattle.desk.specs.declared.state.State.the-variants.{Closed, Open}
 use Rattle.desk.specs.declared.state.Answer.{Answer}
@@ -31,7 +32,6 @@ use Rattle.desk.specs.Abandon.{abandonAnswer}
 use Rattle.desk.specs.End.{endFault}
 use Rattle.desk.proofs.HandedLaws.{room-there}
 use Rattle.demands.specs.Counts.{dayVerdict}
-use Rattle.demands.specs.Days.{blank}
 use Rattle.demands.specs.Calls.{Step, Reply, moved, ended, Desk, deskOf, Given, stateAfter, logAfter, endState}
 use Rattle.demands.specs.Calls.{Gives, fresh-gives, open-gives, take-gives, end-gives, abandon-gives, ask-gives}
 use Rattle.demands.specs.Calls.{lend-gives, Ran, none, next, left}
@@ -176,7 +176,7 @@ module _ (log c book out : List ℕ) (rs : List Record) (row : List ℕ) (a : Ag
 
 -- ---- any step
 pub step : {w : Desk} {p : Paper} {c : Step} {g : Given} → Stands w p → Gives w c g → Same g (rule p (p .course) c)
-unfolding rule openFault takeFault endFault abandonAnswer freshBook blank answered pick
+unfolding rule openFault takeFault endFault abandonAnswer freshBook blankAs answered pick
 step (rest n) (fresh-gives m) = rw (m .answer, m .after) (record { reply = refl; after = rest n })
 step (busy n a) (fresh-gives m) = rw (m .answer, m .after) (record { reply = refl; after = busy n a })
 step (rest n) (ask-gives e) = rw e (record { reply = refl; after = rest n })

@@ -2,7 +2,7 @@
 -- the rules'. Assumes nothing.
 use mathlib.Core.Path.{_≡_, refl, sym, ap, ap₂, _∙_, subst}
 use mathlib.Core.Bool.{Bool, true, false, not, _&&_, and-false}
-use mathlib.Core.List.{List, [], _∷_, _++_}
+use mathlib.Core.List.{List, [], _∷_}
 use Prim.Native.Nat.{ℕ, _+_, _*_, _/_, _%_, _≤_, _<_}
 use native.Mathlib.Omega.{arith}
 use borrow.Author.Tests.{le-leb, le-ltb, eq-eqb}
@@ -11,12 +11,10 @@ use lib.ListN.{length, getD, drop, replicate, length-append, length-replicate, l
 use lib.ListN.{List·getD-append}
 use lib.Seq.{drop-at}
 use Rattle.wire.specs.Choice.{pick, orElse}
-use Rattle.wire.specs.Bytes.{bytes}
 use Rattle.wire.proofs.ChoiceLaws.{or-pick, or-assoc, or-after, or-else, pick-no, flip-no}
 use Rattle.wire.proofs.BelowLaws.{every-all, first-cong}
-use Rattle.wire.proofs.BufferLaws.{rows-cong}
 use Rattle.rules.specs.declared.kinds.Kinds.{Kinds}
-use Rattle.rules.specs.Kinds.{kindsOf, kindsIn, firstKind}
+use Rattle.rules.specs.Kinds.{kindsIn, firstKind}
 use Rattle.rules.specs.Measure.{times, enough, reached}
 use Rattle.daylog.specs.declared.header.Header.{Header}
 use Rattle.daylog.specs.declared.record.Record.{Record}
@@ -27,7 +25,6 @@ use Rattle.tables.specs.Tables.{tablesIn}
 use Rattle.daylog.specs.Changed.{sameHeader, tablesChanged, changedFault}
 use Rattle.places.specs.Places.{ladders, cells, cellOf, groupAt, kindAt, familyAt, HasCell}
 use Rattle.book.specs.Shape.{dayShape}
-use Rattle.book.specs.Layout.{headOf, bookAs, bookOf}
 use Rattle.book.specs.Fits.{bookFault}
 use Rattle.places.proofs.LadderLaws.{row-at, cell-there, cell-in, cell-is}
 use Rattle.verdict.specs.Verdict.{foundCount, findings, bookAfter}
@@ -42,20 +39,12 @@ use Rattle.desk.specs.Open.{kindsFor, zeroed}
 use Rattle.desk.specs.Offences.{kindsOn, familyOf, reachedAt, lowest, lowestOn, verdictOn}
 use Rattle.desk.specs.End.{callFault, rowFault, cellsGood, cellsFault, inCells, cellVerdict, countsFault, lentFault}
 use Rattle.desk.specs.End.{endFault}
-use Rattle.demands.specs.Counts.{howMany, timesOf, timesOn, dayVerdict}
+use Rattle.years.specs.Days.{howMany}
+use Rattle.demands.specs.Counts.{timesOf, timesOn, dayVerdict}
 use Rattle.demands.specs.Paper.{dayIn, takeNumber, endRefusal}
 use Rattle.demands.proofs.CountLaws.{raised-length, raised-past, raised-at}
-use Rattle.demands.proofs.ManyLaws.{many-le}
+use Rattle.years.proofs.ManyLaws.{many-le}
 use Rattle.demands.proofs.TableLaws.{known-tables, fields-fine, has-record, placed, none-past}
-
--- a book by its rulebook and its totals
-pub book-cong : (r r′ date : ℕ) (f g : ℕ → ℕ) → r ≡ r′ → ((l : ℕ) → l < ladders (kindsOf r) → f l ≡ g l)
-    → bookOf r date f ≡ bookOf r′ date g
-unfolding bookAs dayShape
-book-cong r r′ date f g e same =
-    ap (λ (body : List ℕ). headOf (dayShape r .letter) r date ++ body)
-    (rows-cong _ _ (ladders (kindsOf r)) (λ l h. ap (bytes 2) (same l h)))
-    ∙ ap (λ (n : ℕ). bookOf n date g) e
 
 pub record Agrees (log : List ℕ) (rs : List Record) (c : List ℕ) : Type 0 where
   pub sound : logFault log ≡ 0

@@ -2,57 +2,61 @@
 use mathlib.Core.Path.{_≡_, refl, sym, ap, _∙_, subst}
 use mathlib.Core.Bool.{Bool, true, false}
 use mathlib.Core.List.{List, [], _∷_, _++_}
-use Prim.Native.Nat.{ℕ}
+use Prim.Native.Nat.{ℕ, _<_}
 use native.Mathlib.Omega.{arith}
 use borrow.Author.Tests.{eqb-true, eq-eqb}
 use lib.Dec.{eqb, lit<}
 use lib.ListN.{length, replicate}
 use Rattle.wire.specs.Choice.{pick}
-use Rattle.wire.specs.Buffers.{put, rows}
+use Rattle.wire.specs.Buffers.{put}
 use Rattle.wire.proofs.ChoiceLaws.{pick-yes, pick-no, pick-zero, or-none}
-use Rattle.calendar.specs.Dates.{year}
-use Rattle.rules.specs.declared.kinds.Kinds.{Kinds}
 use Rattle.rules.specs.Codes.{isRulebook}
 use Rattle.rules.specs.Kinds.{kindsOf}
 use Rattle.places.specs.Places.{ladders}
-use Rattle.book.specs.Shape.{dayShape, rulebookOf}
+use Rattle.book.specs.Shape.{dayShape, shapeOf}
 use Rattle.book.specs.Sound.{sound}
 use Rattle.book.specs.Fits.{bookFault}
 use Rattle.posting.proofs.FreshLaws.{made}
 use Rattle.daylog.specs.declared.record.Record.{Record}
 use Rattle.daylog.specs.Header.{headerOf, logFault, tablesOf}
 use Rattle.daylog.specs.Rows.{front, rowsOf}
-use Rattle.verdict.specs.Verdict.{foundAt, findings}
+use Rattle.verdict.specs.Verdict.{findings}
+use Rattle.years.specs.Written.{none as no-day}
+use Rattle.years.proofs.TotalLaws.{kept, blank-carries, totals-counted as totals-by}
+use Rattle.years.proofs.TotalLaws.{findings-found as findings-by}
 use Rattle.desk.specs.Books.{freshFault}
 use Rattle.desk.specs.Open.{handedFault}
 use Rattle.desk.specs.End.{rowFault}
-use Rattle.demands.specs.Counts.{timesOn, dayVerdict}
-use Rattle.demands.specs.Days.{PastDay, endedDay, totalOver, foundOn, blank}
+use Rattle.demands.specs.Counts.{dayVerdict}
+use Rattle.demands.specs.Days.{PastDay, endedDay, written, allWritten, blank}
 use Rattle.demands.specs.Calls.{Step, makeBook, openDay, takeRecord, endDay, abandonDay, askBook, lendFindings}
 use Rattle.demands.specs.Calls.{numberIn, Desk, Given, Gives, Ran, none, next, left, fullRoom}
 use Rattle.demands.specs.Paper.{during, Paper, dayIn, endRefusal, freshBook, endRuled, rule, paperAfter}
 use Rattle.demands.specs.Logs.{clerkCounts, recordsIn, logNumber, dayBook, ruledFile, Judged, JudgesAll}
 use Rattle.demands.specs.Logs.{ruledLogs}
 use Rattle.demands.specs.Demand2.{begun, CallsRuled, CellsCounted, None, none as nothing, more, NeverChanged}
-use Rattle.demands.specs.Demand2.{SoundRun, NeverUnsound, FindingsListed, LowestId, History, recorded, history}
+use Rattle.demands.specs.Demand2.{SoundRun, NeverUnsound, OffencesCounted, FindingsListed, LowestId, History}
+use Rattle.demands.specs.Demand2.{recorded, history, foundAll}
 use Rattle.demands.specs.Demand2.{since, BookOfDays, TotalsCounted, FreshIsBlank, BlankCarriesNothing}
 use Rattle.demands.specs.Demand2.{SanctionsFound, FindingsFound, LogsRuled, AlwaysRead, loggedDay, logDays}
 use Rattle.demands.specs.Demand2.{lastFile, FileOfDays, LogsFound}
 use Rattle.demands.proofs.CallLaws.{Stands, rest, busy, step, stands-book, begins, runs-read, runs-stand}
 use Rattle.demands.proofs.CallLaws.{handed-parts, paper}
 use Rattle.demands.proofs.LentLaws.{cells-counted as counted}
-use Rattle.demands.proofs.ListedLaws.{verdict-kinds, findings-list}
+use Rattle.demands.proofs.ListedLaws.{offends-is, findings-list}
 use Rattle.demands.proofs.IdLaws.{lowest-id as lowest}
 use Rattle.demands.proofs.NumberLaws.{refusal, number-is, never-19, never-17}
 use Rattle.demands.proofs.PaperLaws.{kept-fresh, recorded-end, open-book, take-book, abandon-book}
 use Rattle.demands.proofs.Answers.{reads}
 use Rattle.demands.proofs.LogLaws.{call-number, end-number, end-holds, judges, judges-ruled}
-use Rattle.demands.proofs.TotalLaws.{Ready, Kept, kept-none, kept-day, blank-sound, blank-carries, ready}
-use Rattle.demands.proofs.TotalLaws.{ended-sound}
+use Rattle.demands.proofs.TotalLaws.{Ready, ready, Ended, ended-day, ended-sound, blank-sound}
 
 -- ---- any list of steps
 pub calls-ruled : CallsRuled
 calls-ruled w cs gs e r = runs-read (λ x. x) (begins w e) r
+
+pub offences-counted : OffencesCounted
+offences-counted = offends-is
 
 pub findings-listed : FindingsListed
 findings-listed t rs date book = findings-list t rs date book
@@ -91,7 +95,8 @@ unfolding freshBook
 fresh-is-blank book rulebook e = sym (pick-yes _ _ _ _ (eq-eqb _ 0 e) refl)
 
 pub blank-carries-nothing : BlankCarriesNothing
-blank-carries-nothing rulebook y l h = blank-carries rulebook y l h
+unfolding dayShape
+blank-carries-nothing rulebook y l h = blank-carries (dayShape rulebook) rulebook y l h
 
 -- ---- the book stays sound
 sound-fresh : (book : List ℕ) (rulebook : ℕ) → sound book ≡ true → sound (freshBook book rulebook) ≡ true
@@ -147,7 +152,7 @@ never-unsound = never-unsound-where (λ rulebook other. refl)
 -- ---- the days
 -- the book is that of a history
 abbrev pub Holds : History → List ℕ → Type 0
-Holds h book = Kept (h .from) (h .days) book
+Holds h book = Ended (h .from) (h .days) book
 
 pub holds-fresh : (h : History) (book : List ℕ) (rulebook : ℕ) → Holds h book
     → Holds (pick (eqb (freshFault (length book) rulebook) 0) (record { from = blank rulebook; days = [] }) h)
@@ -160,11 +165,11 @@ holds-fresh h book rulebook k = go (eqb (freshFault (length book) rulebook) 0) r
     go true e =
         let z = eqb-true _ 0 e in
         subst (λ (q : History). Holds q (freshBook book rulebook)) (pick-yes _ _ _ _ e refl)
-        (subst (Kept (blank rulebook) []) (sym (fresh-is-blank book rulebook z))
-        (kept-none (blank rulebook) (blank-sound rulebook (made-known (length book) rulebook z))))
+        (subst (Ended (blank rulebook) []) (sym (fresh-is-blank book rulebook z))
+        (no-day (blank-sound rulebook (made-known (length book) rulebook z))))
     go false e =
         subst (λ (q : History). Holds q (freshBook book rulebook)) (pick-no _ _ _ _ e refl)
-        (subst (Kept (h .from) (h .days)) (sym (kept-fresh book rulebook e)) k)
+        (subst (Ended (h .from) (h .days)) (sym (kept-fresh book rulebook e)) k)
 
 choose : (t : Bool) (h₁ h : History) (p₁ p : Paper) → (t ≡ true → Holds h₁ (p₁ .book)) → Holds h (p .book)
     → Holds (pick t h₁ h) (pick t p₁ p .book)
@@ -178,13 +183,13 @@ unfolding rule endRuled recorded
 holds-step h s k (makeBook rulebook) = holds-fresh h _ rulebook k
 holds-step h s k (askBook group kind family) = k
 holds-step h s k (lendFindings out) = k
-holds-step {p = p} h s k (openDay log) = subst (Kept (h .from) (h .days)) (sym (open-book p (p .course) log)) k
-holds-step {p = p} h s k (takeRecord row) = subst (Kept (h .from) (h .days)) (sym (take-book p (p .course) row)) k
-holds-step {p = p} h s k abandonDay = subst (Kept (h .from) (h .days)) (sym (abandon-book p (p .course))) k
+holds-step {p = p} h s k (openDay log) = subst (Ended (h .from) (h .days)) (sym (open-book p (p .course) log)) k
+holds-step {p = p} h s k (takeRecord row) = subst (Ended (h .from) (h .days)) (sym (take-book p (p .course) row)) k
+holds-step {p = p} h s k abandonDay = subst (Ended (h .from) (h .days)) (sym (abandon-book p (p .course))) k
 holds-step h (rest n) k (endDay row) = k
 holds-step h (busy {log} {c} {book} {out} {rs} {room} n a) k (endDay row) =
     choose (eqb (endRefusal log rs row book (length out)) 0) _ h _ (paper (during log rs) book out room)
-    (λ e. kept-day (h .from) (h .days) log book rs k (end-ready log rs row book (length out) (a .sound)
+    (λ e. ended-day (h .from) (h .days) log book rs k (end-ready log rs row book (length out) (a .sound)
     (eqb-true _ 0 e))) k
 
 -- ---- what a run leaves
@@ -205,23 +210,23 @@ pub sound-run : {w : Desk} {cs : List Step} {gs : List Given} → SoundRun w cs 
     → Stood (left w gs) (paperAfter (begun w) cs) (since w cs)
 sound-run {w} r =
     let s = begins w (r .closed) in
-    record { stands = runs-stand s (r .ran); holds = holds-run _ s (kept-none (w .book) (r .good)) (r .ran) }
+    record { stands = runs-stand s (r .ran); holds = holds-run _ s (no-day (r .good)) (r .ran) }
 
 pub left-kept : {w : Desk} {cs : List Step} {gs : List Given} → SoundRun w cs gs → Holds (since w cs) (left w gs .book)
 left-kept {w} {cs} r = let s = sound-run r in subst (Holds (since w cs)) (sym (stands-book (s .stands))) (s .holds)
 
 pub book-of-days : BookOfDays
-book-of-days w cs gs r = left-kept r .is
+book-of-days w cs gs r = kept (left-kept r) .is
 
 pub totals-counted : TotalsCounted
+unfolding dayShape
 totals-counted w cs gs r l h =
     let k = left-kept r in
-    let same = ap (λ (n : ℕ). ladders (kindsOf n)) (k .rulebook) in
-    k .total l (omega (arith, same))
-    ∙ ap (λ (n : ℕ). totalOver (since w cs .from) (year n) l (since w cs .days)) (sym (k .last))
+    totals-by (shapeOf (since w cs .from)) (since w cs .from) (left w gs .book) (allWritten (since w cs .days)) k l
+    (subst (λ (n : ℕ). l < ladders (kindsOf n)) (kept k .rulebook) h)
 
 pub sanctions-found : SanctionsFound
-sanctions-found w cs gs r = left-kept r .sanctions
+sanctions-found w cs gs r = kept (left-kept r) .sanctions
 
 -- ---- an accepted end
 history-more : (p : Paper) (h : History) (cs : List Step) (c : Step)
@@ -231,24 +236,17 @@ history-more p h [] c = refl
 history-more p h (d ∷ cs) c = history-more (rule p (p .course) d .after) (recorded p (p .course) d h) cs c
 
 -- what the rules put in the buffer are the rows of what the day found
-rows-found : {from : List ℕ} {days : List PastDay} (log book : List ℕ) (rs : List Record) → Kept from days book
+rows-found : (from : List ℕ) (days : List PastDay) (log book : List ℕ) (rs : List Record) → Ended from days book
     → Ready log book
-    → findings (dayVerdict (tablesOf log) rs) (headerOf log .date) book
-    ≡ rows (foundOn from (endedDay log rs) days) (ladders (kindsOf (rulebookOf from)))
-unfolding findings
-rows-found {from} log book rs k q =
-    let t = tablesOf log in
-    let v = dayVerdict t rs in
-    let same : v .shape .kinds ≡ kindsOf (rulebookOf from) =
-    verdict-kinds t (timesOn t rs) ∙ ap kindsOf (sym (q .same) ∙ k .rulebook) in
-    ap (λ (x : Kinds). rows (foundAt v (headerOf log .date) book) (ladders x)) same
-    ∙ ap (λ (b : List ℕ). rows (foundAt v (headerOf log .date) b) (ladders (kindsOf (rulebookOf from)))) (k .is)
+    → findings (dayVerdict (tablesOf log) rs) (headerOf log .date) book ≡ foundAll from (endedDay log rs) days
+rows-found from days log book rs k q =
+    findings-by (shapeOf from) from book (allWritten days) k (written (endedDay log rs))
+    (q rs .shaped ∙ ap dayShape (kept k .rulebook))
 
 record EndFound (v : Desk) (p : Paper) (h : History) (row : List ℕ) (g : Given) : Type 0 where
   day : PastDay
   one-more : recorded p (p .course) (endDay row) h .days ≡ day ∷ h .days
-  bytes : g .after .out
-      ≡ put (v .out) 0 (rows (foundOn (h .from) day (h .days)) (ladders (kindsOf (rulebookOf (h .from)))))
+  bytes : g .after .out ≡ put (v .out) 0 (foundAll (h .from) day (h .days))
 
 end-found : {v : Desk} {p : Paper} (h : History) (row : List ℕ) (g : Given) → Stands v p → Holds h (p .book)
     → Gives v (endDay row) g
@@ -262,7 +260,8 @@ end-found h row g (busy {log} {c} {book} {out} {rs} {room} n a) k m z =
       one-more = ap (λ (q : History). q .days) (recorded-end (paper (during log rs) book out room) log rs row h e);
       bytes =
           end-holds row s m e .in-out
-          ∙ ap (put out 0) (rows-found log book rs k (end-ready log rs row book (length out) (a .sound) e));
+          ∙ ap (put out 0)
+          (rows-found (h .from) (h .days) log book rs k (end-ready log rs row book (length out) (a .sound) e));
     }
 
 pub findings-found : FindingsFound
@@ -281,12 +280,12 @@ logs-ruled = judges-ruled
 pub always-read : AlwaysRead
 always-read = reads
 
-kept-pick : (t : Bool) (from : List ℕ) (days₁ days : List PastDay) (book₁ book : List ℕ)
-    → (t ≡ true → Kept from days₁ book₁) → Kept from days book
-    → Kept from (pick t days₁ days) (pick t book₁ book)
+ended-pick : (t : Bool) (from : List ℕ) (days₁ days : List PastDay) (book₁ book : List ℕ)
+    → (t ≡ true → Ended from days₁ book₁) → Ended from days book
+    → Ended from (pick t days₁ days) (pick t book₁ book)
 unfolding pick
-kept-pick true from days₁ days book₁ book y n = y refl
-kept-pick false from days₁ days book₁ book y n = n
+ended-pick true from days₁ days book₁ book y n = y refl
+ended-pick false from days₁ days book₁ book y n = n
 
 -- a log that is accepted is of a day that may be ended on the book
 log-ready : (book log : List ℕ) → logNumber book log ≡ 0 → Ready (front log) book
@@ -295,28 +294,28 @@ log-ready book log e =
     let q = handed-parts (front log) book clerkCounts (or-none (handedFault (front log) book clerkCounts) _ e .0) in
     ready (front log) book (q .0) (q .1)
 
-log-kept : (from : List ℕ) (days : List PastDay) (book log : List ℕ) → Kept from days book
-    → Kept from (pick (eqb (logNumber book log) 0) (loggedDay log ∷ days) days) (ruledFile book log)
+log-kept : (from : List ℕ) (days : List PastDay) (book log : List ℕ) → Ended from days book
+    → Ended from (pick (eqb (logNumber book log) 0) (loggedDay log ∷ days) days) (ruledFile book log)
 unfolding ruledFile
 log-kept from days book log k =
-    kept-pick (eqb (logNumber book log) 0) from _ days (dayBook book log) book
-    (λ e. kept-day from days (front log) book (recordsIn [] (rowsOf log)) k (log-ready book log (eqb-true _ 0 e))) k
+    ended-pick (eqb (logNumber book log) 0) from _ days (dayBook book log) book
+    (λ e. ended-day from days (front log) book (recordsIn [] (rowsOf log)) k (log-ready book log (eqb-true _ 0 e))) k
 
-pub logs-kept : (from : List ℕ) (days : List PastDay) (book : List ℕ) (logs : List (List ℕ)) → Kept from days book
-    → Kept from (logDays book days logs) (lastFile book (ruledLogs book logs))
+pub logs-kept : (from : List ℕ) (days : List PastDay) (book : List ℕ) (logs : List (List ℕ)) → Ended from days book
+    → Ended from (logDays book days logs) (lastFile book (ruledLogs book logs))
 unfolding lastFile ruledLogs logDays
 logs-kept from days book [] k = k
 logs-kept from days book (log ∷ logs) k = logs-kept from _ (ruledFile book log) logs (log-kept from days book log k)
 
 -- the file that a list of logs leaves
 pub file-kept : (book : List ℕ) (logs : List (List ℕ)) (js : List Judged) → sound book ≡ true → JudgesAll book logs js
-    → Kept book (logDays book [] logs) (lastFile book js)
+    → Ended book (logDays book [] logs) (lastFile book js)
 file-kept book logs js good r =
-    subst (λ (xs : List Judged). Kept book (logDays book [] logs) (lastFile book xs))
-    (sym (logs-ruled book logs js r)) (logs-kept book [] book logs (kept-none book good))
+    subst (λ (xs : List Judged). Ended book (logDays book [] logs) (lastFile book xs))
+    (sym (logs-ruled book logs js r)) (logs-kept book [] book logs (no-day good))
 
 pub file-of-days : FileOfDays
-file-of-days book logs js good r = file-kept book logs js good r .is
+file-of-days book logs js good r = kept (file-kept book logs js good r) .is
 
 pub logs-found : LogsFound
 logs-found book logs js good r log w j =
@@ -324,5 +323,5 @@ logs-found book logs js good r log w j =
     let q = judges file log j in
     q .written refl .in-out
     ∙ ap (put (replicate fullRoom 0) 0)
-    (rows-found (front log) file (recordsIn [] (rowsOf log)) (file-kept book logs js good r)
-    (log-ready file log (sym (q .same))))
+    (rows-found book (logDays book [] logs) (front log) file (recordsIn [] (rowsOf log))
+    (file-kept book logs js good r) (log-ready file log (sym (q .same))))

@@ -6,28 +6,34 @@ use Prim.Native.Nat.{ℕ, _+_, _≤_, _<_}
 use native.Mathlib.Omega.{arith}
 use Rattle.rules.specs.declared.kinds.Kinds.{Kinds}
 use Rattle.rules.specs.declared.kinds.Kinds.the-variants.{One, Three, Four}
-use Rattle.rules.specs.Kinds.{kindsOf, kindsIn, firstKind}
+use Rattle.rules.specs.Kinds.{kindsIn, firstKind}
 use Rattle.rules.proofs.KindLaws.{kinds-begin}
 use Rattle.places.specs.Places.{HasCell}
+use Rattle.book.specs.Shape.{dayShape}
 use Rattle.book.specs.Sound.{sound}
 use Rattle.daylog.specs.Header.{tablesOf}
+use Rattle.years.specs.Written.{none as no-day}
+use Rattle.years.specs.Joined.{Two, YearJoined}
+use Rattle.years.proofs.TotalLaws.{blank-rulebook}
 use Rattle.desk.specs.Offences.{kindsOn}
 use Rattle.demands.specs.Counts.{timesOf}
-use Rattle.demands.specs.Days.{PastDay, blank}
+use Rattle.demands.specs.Days.{allWritten, blank}
 use Rattle.demands.specs.Calls.{Step, numberIn, Desk, Given, Ran, none as no-step, next, left}
 use Rattle.demands.specs.Paper.{Course, idle, Paper, numbersOn}
 use Rattle.demands.specs.Lent.{cellIn, CountsHold}
-use Rattle.demands.specs.Demand2.{Seen, begun, SoundRun, History, since}
+use Rattle.demands.specs.Logs.{ruledLogs}
+use Rattle.demands.specs.Demand2.{Seen, begun, SoundRun, History, since, logDays, lastFile}
 use Rattle.demands.specs.Join.{joinLog, between}
-use Rattle.demands.specs.Demand3.{Two, Added, Accepted, none, more, Fair, accepted as was-accepted}
-use Rattle.demands.specs.Demand3.{full-size as was-full-size, FreshRun, Run, CellsAdded, YearJoined}
+use Rattle.demands.specs.Demand3.{Added, Accepted, none, more, Fair, accepted as was-accepted}
+use Rattle.demands.specs.Demand3.{full-size as was-full-size, FreshRun, Run, CellsAdded}
 use Rattle.demands.specs.Demand3.{NothingLost, NothingLostInLogs}
 use Rattle.demands.proofs.CallLaws.{Stands, step, stands-book, begins, runs-read}
 use Rattle.demands.proofs.NumberLaws.{number-is}
-use Rattle.demands.proofs.TotalLaws.{kept-none, blank-sound, blank-rulebook}
+use Rattle.demands.proofs.TotalLaws.{Ended, blank-sound}
 use Rattle.demands.proofs.Demand2.{sound-run, logs-ruled, cells-counted}
 use Rattle.demands.proofs.JoinTables.{joined-log}
-use Rattle.demands.proofs.JoinYears.{kinds-joined, years-fresh, times-join, year-joined}
+use Rattle.demands.proofs.JoinFound.{kinds-joined}
+use Rattle.demands.proofs.JoinYears.{years-fresh, times-join, year-joined}
 use Rattle.demands.proofs.JoinRun.{AcceptedBy, Fits, accepted, full-size, Twin, both-idle, both-open, Beside}
 use Rattle.demands.proofs.JoinRun.{Runs, runs}
 use Rattle.demands.proofs.JoinLogs.{files}
@@ -128,8 +134,7 @@ module _ (a b rulebook : ℕ) (w w′ : Desk) (cs cs′ : List Step) (gs gs′ :
   beside : Beside a b (begun w) (begun w′) (start w) (start w′)
   beside = record {
     course = both-idle;
-    years = rw (r .run .fresh, r .joined .fresh) (years-fresh a b rulebook (kept-none (blank rulebook) good)
-        (kept-none (blank rulebook) good));
+    years = rw (r .run .fresh, r .joined .fresh) (years-fresh a b rulebook (no-day good) (no-day good));
   }
     where
       good : sound (blank rulebook) ≡ true
@@ -158,24 +163,24 @@ nothing-lost a b rulebook w w′ cs cs′ gs gs′ r =
           (cells-counted w cs gs (r .run .closed) (r .run .ran))
           (cells-counted w′ cs′ gs′ (r .joined .closed) (r .joined .ran));
       same-book = q .after .years .same;
+      each = q .after .years .days;
       year = rw (stands-book s, stands-book s′) (year-joined a b (r .two) (since w cs) (since w′ cs′) _ _
           (q .after .years));
     }
 
 -- ---- day logs
--- the kinds of a fresh book are its rulebook's
-year-kinds : {k k′ : Kinds} {a b : ℕ} {from book book′ : List ℕ} {days days′ : List PastDay} → k ≡ k′
-    → YearJoined k a b from book book′ days days′ → YearJoined k′ a b from book book′ days days′
-year-kinds {a = a} {b} {from} {book} {book′} {days} {days′} e y =
-    subst (λ (x : Kinds). YearJoined x a b from book book′ days days′) e y
-
 pub nothing-lost-in-logs : NothingLostInLogs
 nothing-lost-in-logs a b rulebook logs js js′ two known r r′ =
-    let k = kept-none (blank rulebook) (blank-sound rulebook known) in
-    let q = files a b two (blank rulebook) (blank rulebook) [] [] (blank rulebook) (blank rulebook) logs
-    (years-fresh a b rulebook k k) in
-    rw (logs-ruled (blank rulebook) logs js r, logs-ruled (blank rulebook) (map (joinLog a b) logs) js′ r′)
+    let from = blank rulebook in
+    let logs′ = map (joinLog a b) logs in
+    let k : Ended from [] from = no-day (blank-sound rulebook known) in
+    let q = files a b two from from [] [] from from logs (years-fresh a b rulebook k k) in
+    rw (logs-ruled from logs js r, logs-ruled from logs′ js′ r′)
     (record {
       same-numbers = q .numbers;
-      year = year-kinds (ap kindsOf (blank-rulebook rulebook)) (year-joined a b two _ _ _ _ (q .years));
+      each = q .years .days;
+      year = subst (λ (x : ℕ). YearJoined (dayShape x) a b from (lastFile from (ruledLogs from logs))
+          (lastFile from (ruledLogs from logs′)) (allWritten (logDays from [] logs))
+          (allWritten (logDays from [] logs′)))
+          (blank-rulebook (dayShape rulebook) rulebook) (year-joined a b two _ _ _ _ (q .years));
     })

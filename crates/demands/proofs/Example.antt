@@ -11,16 +11,19 @@ use Rattle.rules.specs.Exemption.{known, exempt}
 use Rattle.rules.specs.Measure.{enough}
 use Rattle.rules.specs.Ladders.{family, rung, sanction}
 use Rattle.rules.specs.Kinds.{kindsOf, kindsIn, firstKind}
+use Rattle.book.specs.Shape.{dayShape}
 use Rattle.book.specs.Layout.{headOf, bookAs}
 use Rattle.tables.specs.Accounts.{accountPlace, hasMember}
 use Rattle.tables.specs.Contracts.{contractPlace}
 use Rattle.tables.specs.Tables.{accountOf, contractOf, hasAccount, groupOf, memberOn}
 use Rattle.counts.specs.Counting.{planFor, planOf, countsAs, countsFor}
-use Rattle.desk.specs.Offences.{familyOf}
-use Rattle.demands.specs.Counts.{howMany, timesOf, reachesOn, offence}
-use Rattle.demands.specs.Days.{offenceOn, offenceDays, carried, totalOver, blank}
-use Rattle.demands.specs.Join.{Joined, joined}
-use Rattle.demands.specs.Restrictions.{sanctionOn, sanctions}
+use Rattle.verdict.specs.Verdict.{offends}
+use Rattle.years.specs.Days.{howMany, offenceOn, offenceDays, carried, totalOver, blankAs}
+use Rattle.years.specs.Restrictions.{sanctionOn, sanctions}
+use Rattle.years.specs.Joined.{joined}
+use Rattle.desk.specs.Offences.{familyOf, reachedAt, lowest, lowestOn, verdictOn}
+use Rattle.demands.specs.Counts.{timesOf, timesOn}
+use Rattle.demands.specs.Join.{Joined}
 use Rattle.demands.specs.Example.{tablesWith, ownTrade, tradingDay, daysWith, threeAlone, threeOrFive}
 use Rattle.demands.specs.Example.{WhyThreeOrFive}
 
@@ -46,7 +49,8 @@ tables-join = record {
 numbers : (threeAlone 1 (daysWith 1) ≡ 1) × (threeAlone 2 (daysWith 2) ≡ 0)
     × (threeOrFive 1 (daysWith 1) ≡ 1) × (threeOrFive 2 (daysWith 2) ≡ 1)
 unfolding threeAlone threeOrFive daysWith tradingDay tablesWith ownTrade sanctions sanctionOn offenceDays offenceOn
-    totalOver carried blank bookAs headOf le bytes offence reachesOn timesOf howMany memberOn hasMember familyOf
+    totalOver carried blankAs bookAs headOf le bytes offends verdictOn dayShape lowestOn lowest reachedAt timesOn
+    timesOf howMany memberOn hasMember familyOf
     countsFor countsAs planOf planFor groupOf hasAccount contractOf accountOf accountPlace contractPlace kindsOf
     kindsIn firstKind sanction rung family enough exempt known byThree first some every pick
 numbers = (refl, refl, refl, refl)

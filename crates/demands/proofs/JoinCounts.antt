@@ -23,8 +23,9 @@ use Rattle.counts.specs.declared.weigh.Plan.{Plan}
 use Rattle.counts.specs.Counting.{exempt1, exempt2, planFor, planOf, countsAs, countsFor, fieldsFault}
 use Rattle.desk.specs.Offences.{familyOf}
 use Rattle.demands.specs.Counts.{timesOf, reachesOn, offence}
-use Rattle.demands.specs.Join.{joined, Joined, betweenFor, between}
-use Rattle.demands.proofs.ManyLaws.{many-cong, many-none, many-two, many-three}
+use Rattle.years.specs.Joined.{joined}
+use Rattle.demands.specs.Join.{Joined, betweenFor, between}
+use Rattle.years.proofs.ManyLaws.{many-cong, many-none, many-two, many-three}
 
 -- ---- general laws: tests
 -- two numbers that are one, which is a third: both are the third
@@ -407,14 +408,6 @@ module _ (a b : ℕ) (t t′ : Tables) (j : Joined a b t t′) (some-a : 1 ≤ a
       ∙ and-yes (eqb (familyOf t place) family) _ same
       (reached-more (timesOf t rs g k place) (timesOf t′ rs g′ k place) (enough (t .text) k) up enough-before)
 
-  reaches-other : (rs : List Record) (g k family place : ℕ) → (g ≡ a → ⊥) → (g ≡ b → ⊥)
-      → reachesOn t′ rs g k family place ≡ reachesOn t rs g k family place
-  unfolding reachesOn
-  reaches-other rs g k family place na nb =
-      reaches-is rs g k family place
-      ∙ ap (λ (n : ℕ). eqb (familyOf t place) family && reached (times n) (enough (t .text) k))
-      (times-other rs g k place na nb)
-
   reaches-none : (rs : List Record) (k family place : ℕ) → reachesOn t′ rs a k family place ≡ false
   reaches-none rs k family place =
       reaches-is rs a k family place
@@ -441,14 +434,6 @@ module _ (a b : ℕ) (t t′ : Tables) (j : Joined a b t t′) (some-a : 1 ≤ a
 
   pub offence-b : (rs : List Record) (k family : ℕ) → offence t rs b k family ≡ true → offence t′ rs b k family ≡ true
   offence-b rs k family = offence-more rs b b k family (rises-b rs k)
-
-  pub offence-other : (rs : List Record) (g k family : ℕ) → (g ≡ a → ⊥) → (g ≡ b → ⊥) → offence t′ rs g k family
-      ≡ offence t rs g k family
-  unfolding offence
-  offence-other rs g k family na nb =
-      offence-is rs g k family
-      ∙ some-cong (reachesOn t′ rs g k family) (reachesOn t rs g k family) (t .contracts)
-      (λ place. reaches-other rs g k family place na nb)
 
   pub offence-none : (rs : List Record) (k family : ℕ) → offence t′ rs a k family ≡ false
   offence-none rs k family = offence-is rs a k family ∙ some-none (reachesOn t′ rs a k family) (t .contracts)

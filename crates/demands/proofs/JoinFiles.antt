@@ -13,7 +13,8 @@ use Rattle.daylog.specs.Header.{headerOf, logFault}
 use Rattle.daylog.specs.Records.{recordLength}
 use Rattle.daylog.specs.Rows.{frontSize, front, rowSize, pieces, rowsOf}
 use Rattle.daylog.proofs.FaultLaws.{log-sound}
-use Rattle.demands.specs.Join.{joined, groupByte, byPlace, joinLog}
+use Rattle.years.specs.Joined.{joined}
+use Rattle.demands.specs.Join.{groupByte, byPlace, joinLog}
 use Rattle.demands.proofs.JoinTables.{header-same, join-length, past, header-stands}
 
 -- ---- the front of a file has its header

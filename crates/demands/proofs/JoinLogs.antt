@@ -14,6 +14,7 @@ use Rattle.daylog.specs.declared.header.Header.{Header}
 use Rattle.daylog.specs.Header.{logFault}
 use Rattle.daylog.specs.Records.{recordLength, recordOf}
 use Rattle.daylog.specs.Rows.{front, rowSize, rowsOf, isEnd}
+use Rattle.years.specs.Joined.{Two}
 use Rattle.desk.specs.Open.{handedFault}
 use Rattle.desk.specs.End.{rowFault}
 use Rattle.demands.specs.Days.{PastDay}
@@ -22,7 +23,6 @@ use Rattle.demands.specs.Logs.{clerkCounts, recordsIn, followFault, rows
 use Rattle.demands.specs.Logs.{ruledLogs}
 use Rattle.demands.specs.Demand2.{History, loggedDay, logDays, lastFile}
 use Rattle.demands.specs.Join.{joinLog}
-use Rattle.demands.specs.Demand3.{Two}
 use Rattle.demands.proofs.CallLaws.{handed-parts}
 use Rattle.demands.proofs.JoinTables.{header-stands}
 use Rattle.demands.proofs.JoinFiles.{front-joined, rows-joined}

@@ -24,6 +24,7 @@ use Rattle.daylog.specs.Records.{recordLength, recordOf}
 use Rattle.counts.specs.Weigh.{recordFault}
 use Rattle.verdict.specs.Settle.{shortFault}
 use Rattle.desk.specs.Books.{freshFault, askFault}
+use Rattle.years.specs.Joined.{Two}
 use Rattle.desk.specs.Open.{kindsFor, fewFault, handedFault}
 use Rattle.desk.specs.End.{rowFault}
 use Rattle.desk.proofs.HandedLaws.{room-there}
@@ -36,7 +37,7 @@ use Rattle.demands.specs.Logs.{clerkCounts}
 use Rattle.demands.specs.Lent.{latest, lastOpened}
 use Rattle.demands.specs.Demand2.{History, recorded, history}
 use Rattle.demands.specs.Join.{joinLog}
-use Rattle.demands.specs.Demand3.{Two, StepJoined, makes, opens, takes, ends, abandons, asks, lends}
+use Rattle.demands.specs.Demand3.{StepJoined, makes, opens, takes, ends, abandons, asks, lends}
 use Rattle.demands.specs.Demand3.{StepsJoined, none, more, roomy, allRoomy}
 use Rattle.demands.proofs.CallLaws.{paper, handed-parts}
 use Rattle.demands.proofs.ListedLaws.{found-fits}

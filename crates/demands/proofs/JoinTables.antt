@@ -21,7 +21,8 @@ use Rattle.daylog.specs.Header.{headerOf, logMarked, contractsPart, accountsPar
 use Rattle.daylog.specs.Header.{tablesOf}
 use Rattle.tables.specs.Tables.{tablesIn}
 use Rattle.daylog.proofs.FaultLaws.{log-sound}
-use Rattle.demands.specs.Join.{joined, accountsTo, groupByte, byPlace, joinLog, Joined}
+use Rattle.years.specs.Joined.{joined}
+use Rattle.demands.specs.Join.{accountsTo, groupByte, byPlace, joinLog, Joined}
 
 -- ---- a change of every byte by its place
 by-length : (f : ℕ → ℕ → ℕ) (i : ℕ) (s : List ℕ) → length (byPlace f i s) ≡ length s

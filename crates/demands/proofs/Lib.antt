@@ -1,4 +1,3 @@
-pub mod ManyLaws
 pub mod CountLaws
 pub mod TableLaws
 pub mod DayLaws

@@ -11,7 +11,8 @@ use Rattle.tables.specs.Contracts.{contractPlace}
 use Rattle.tables.specs.Tables.{accountOf, contractOf, hasAccount, groupOf}
 use Rattle.counts.specs.Counting.{planFor, planOf, countsAs, countsFor}
 use Rattle.desk.specs.Offences.{familyOf}
-use Rattle.demands.specs.Counts.{howMany, timesOf, reachesOn, offence}
+use Rattle.years.specs.Days.{howMany}
+use Rattle.demands.specs.Counts.{timesOf, reachesOn, offence}
 use Rattle.demands.specs.Starred.{allHold}
 use Rattle.demands.specs.MarketMakers.{dayOn, makerOffends, marketMakers, MarketMakers}
 

@@ -124,7 +124,7 @@ same-room p (during log rs) abandonDay = refl
 pub written-room : (t : Tables) (rs : List Record) (date : ℕ) (book out : List ℕ) → fullRoom ≤ length out
     → fullRoom ≤ length (put out 0 (findings (dayVerdict t rs) date book))
 written-room t rs date book out h =
-    let long = findings-list t rs date book .long in
+    let long = findings-list t rs date book .lists .long in
     let fits = found-fits t (timesOn t rs) (length out) h in
     omega (arith, length-put out 0 (findings (dayVerdict t rs) date book) (omega (arith, fits)))
 

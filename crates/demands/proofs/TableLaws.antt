@@ -6,20 +6,17 @@ use mathlib.Core.List.{List}
 use Prim.Native.Nat.{ℕ, _*_, _≤_, _<_}
 use native.Mathlib.Omega.{arith}
 use borrow.Author.Tests.{ltb-true, lt-ltb, ne-eqb, not-false}
-use lib.Dec.{ltb, eqb, lit<}
+use lib.Dec.{eqb, lit<}
 use lib.ListN.{drop, length-take}
-use Rattle.wire.specs.Choice.{within}
-use Rattle.wire.proofs.ChoiceLaws.{pick-yes, pick-zero, and-left, and-right, and-no-right, bounds}
-use Rattle.wire.proofs.BelowLaws.{every-at}
+use Rattle.wire.proofs.ChoiceLaws.{pick-yes, pick-zero, and-no-right}
 use Rattle.rules.specs.declared.kinds.Kinds.{Kinds}
 use Rattle.rules.specs.declared.kinds.Kinds.the-variants.{One, Three, Four}
 use Rattle.rules.specs.Kinds.{kindsIn, firstKind}
 use Rattle.rules.proofs.KindLaws.{kinds-begin}
 use Rattle.daylog.specs.declared.record.Record.{Record}
-use Rattle.tables.specs.Accounts.{accountAt, numberBefore, accountGoodAt, accountsGood}
+use Rattle.tables.proofs.EntryLaws.{group-at}
 use Rattle.daylog.specs.Header.{headerOf, accountsPart, logFault, tablesOf}
 use Rattle.daylog.specs.Records.{recordOf}
-use Rattle.tables.specs.Entries.{entries}
 use Rattle.tables.specs.Tables.{Tables, tablesIn, accountOf, contractOf, hasAccount, hasContract, groupOf}
 use Rattle.daylog.proofs.FaultLaws.{log-sound}
 use Rattle.places.specs.Places.{HasCell}
@@ -31,18 +28,6 @@ pub record Known (t : Tables) : Type 0 where
   pub few : t .contracts ≤ 32
   pub first-group : (k : ℕ) → k < t .accounts → 1 ≤ t .account k .group
   pub last-group : (k : ℕ) → k < t .accounts → t .account k .group ≤ 128
-
-group-at : (s : List ℕ) → accountsGood s ≡ true → (k : ℕ) → k < entries s → (1 ≤ accountAt s k .group)
-    × (accountAt s k .group ≤ 128)
-unfolding accountsGood
-group-at s e k h =
-    let rises = ltb (numberBefore s k) (accountAt s k .number) in
-    let group = within 1 128 (accountAt s k .group) in
-    let kind = within 1 2 (accountAt s k .kind) in
-    let spare = eqb (accountAt s k .spare) 0 in
-    let good : rises && group && kind && spare ≡ true = every-at (accountGoodAt s) (entries s) k e h in
-    bounds 1 128 (accountAt s k .group)
-    (and-right rises group (and-left (rises && group) kind (and-left (rises && group && kind) spare good)))
 
 pub known-tables : (log : List ℕ) → logFault log ≡ 0 → Known (tablesOf log)
 unfolding tablesOf tablesIn

@@ -48,7 +48,9 @@ use Rattle.counts.specs.Weigh.{recordFault}
 use Rattle.desk.specs.Open.{handedFault}
 use Rattle.desk.specs.Offences.{familyOf, reachedAt, lowest, lowestOn, verdictOn}
 use Rattle.desk.specs.End.{rowFault}
-use Rattle.demands.specs.Counts.{howMany, timesOf, timesOn, dayVerdict}
+use Rattle.years.specs.Days.{howMany}
+use Rattle.years.proofs.TotalLaws.{book-cong}
+use Rattle.demands.specs.Counts.{timesOf, timesOn, dayVerdict}
 use Rattle.demands.specs.Samples.{bookWithOne}
 use Rattle.demands.specs.Calls.{takeRecord, endDay, abandonDay, lendFindings, ended, numberIn, fullRoom}
 use Rattle.demands.specs.Paper.{idle, during, Paper, dayIn, takeNumber, endRefusal, freshBook, openRuled}
@@ -62,7 +64,6 @@ use Rattle.demands.proofs.CallLaws.{paper, stands-book, stands-out, run
 use Rattle.demands.proofs.NumberLaws.{refusal}
 use Rattle.demands.proofs.Answers.{answers}
 use Rattle.demands.proofs.LogLaws.{clerk-rests}
-use Rattle.demands.proofs.DayLaws.{book-cong}
 use Rattle.demands.proofs.RuledSteps.{Goes, goes-one, goes-on, book-fits, opens, closes}
 use Rattle.demands.proofs.SampleLaws.{one, one-rulebook, one-date, one-total, one-sound}
 
@@ -161,10 +162,10 @@ total-is l h =
     (raised-one (eqb l place))
 
 book-is : bookAfter verdict 20240305 before ≡ workedBook 20240305 2
-unfolding bookAfter bookWithOne
+unfolding bookAfter bookWithOne dayShape
 book-is =
     ap₂ (λ s r. bookAs s r 20240305 (totalAfter verdict 20240305 before)) (shape-is .0) (shape-is .1)
-    ∙ book-cong 1 1 20240305 (totalAfter verdict 20240305 before) (one place 2) refl total-is
+    ∙ book-cong (dayShape 1) 1 1 20240305 (totalAfter verdict 20240305 before) (one place 2) refl total-is
 
 -- ---- the one finding
 -- what a ladder's finding is, with its total in hand

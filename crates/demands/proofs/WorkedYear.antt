@@ -18,6 +18,7 @@ use Rattle.rules.specs.Measure.{enough}
 use Rattle.rules.specs.Ladders.{family}
 use Rattle.rules.specs.Kinds.{kindsOf, kindsIn, firstKind}
 use Rattle.places.specs.Places.{ladders, ladderOf}
+use Rattle.book.specs.Shape.{dayShape}
 use Rattle.book.specs.Layout.{lastDate, totalAt}
 use Rattle.daylog.specs.declared.record.Record.{Record}
 use Rattle.tables.specs.Contracts.{contractAt, idBefore, contractsGood, contractPlace}
@@ -29,10 +30,14 @@ use Rattle.daylog.specs.Rows.{rowSize}
 use Rattle.tables.specs.Tables.{tablesIn, accountOf, contractOf, hasAccount, hasContract, groupOf}
 use Rattle.counts.specs.Counting.{planFor, planOf, countsAs, countsFor, fieldsFault}
 use Rattle.counts.specs.Weigh.{recordFault}
-use Rattle.desk.specs.Offences.{familyOf}
+use Rattle.verdict.specs.Verdict.{offends}
+use Rattle.years.specs.Days.{howMany, offenceOn, offenceDays, lastOn}
+use Rattle.years.specs.Written.{none as no-day}
+use Rattle.years.proofs.TotalLaws.{kept, blank-rulebook, blank-date, blank-total}
+use Rattle.desk.specs.Offences.{familyOf, reachedAt, lowest, lowestOn, verdictOn}
 use Rattle.desk.specs.End.{rowFault}
-use Rattle.demands.specs.Counts.{howMany, timesOf, reachesOn, offence}
-use Rattle.demands.specs.Days.{PastDay, endedDay, offenceOn, offenceDays, lastOn, blank}
+use Rattle.demands.specs.Counts.{timesOf, timesOn}
+use Rattle.demands.specs.Days.{PastDay, endedDay, allWritten, blank}
 use Rattle.demands.specs.Calls.{Step, numberIn, Given, numbers, Ran, left, fullRoom}
 use Rattle.demands.specs.Paper.{idle, during, Paper, dayIn, takeNumber, takeRuled, rule, rules, numbersOn}
 use Rattle.demands.specs.Paper.{paperAfter}
@@ -44,8 +49,7 @@ use Rattle.demands.specs.Worked.{tablesFor, tradeOn, tradeRow, endRow, w
 use Rattle.demands.specs.WorkedYear.{yearTables, yearDesk, firstTrades, secondTrades, yearWith, yearSteps}
 use Rattle.demands.specs.WorkedYear.{yearJoined, WorkedYear}
 use Rattle.demands.proofs.CallLaws.{paper, stands-book, runs-read, runs-stand}
-use Rattle.demands.proofs.TotalLaws.{Kept, kept-none, kept-day, ready, blank-sound, blank-rulebook, blank-date}
-use Rattle.demands.proofs.TotalLaws.{blank-total}
+use Rattle.demands.proofs.TotalLaws.{ready, Ended, ended-day, good-sound, blank-sound}
 use Rattle.demands.proofs.LogLaws.{end-plain, clerk-rests}
 use Rattle.demands.proofs.Answers.{answers}
 use Rattle.demands.proofs.PaperLaws.{written-room}
@@ -69,20 +73,22 @@ record Leaves (p : Paper) (cs : List Step) (ns : List ℕ) (days : List PastDay)
   book : List ℕ
   out : List ℕ
   goes : Goes p cs ns found (paper idle book out clerkCounts)
-  kept : Kept (blank 1) days book
+  kept : Ended (blank 1) days book
   room : fullRoom ≤ length out
 
 -- such a day, on the book of the days before it
 day-leaves : {log : List ℕ} {trades : List Step} {ns ks : List ℕ} {rs : List Record} {date : ℕ}
-    {days : List PastDay} {book : List ℕ}
-    → DayGood log trades ns ks rs date → (out : List ℕ) → Kept (blank 1) days book → lastOn (blank 1) days < date
+    {book : List ℕ}
+    → DayGood log trades ns ks rs date → (out : List ℕ) (days : List PastDay) → Ended (blank 1) days book
+    → lastOn (blank 1) (allWritten days) < date
     → fullRoom ≤ length out
     → Leaves (paper idle book out clerkCounts) (wholeDay log trades) (0 ∷ (ns ++ (0 ∷ []))) (endedDay log rs ∷ days)
 unfolding wholeDay
-day-leaves {log} {rs = rs} {days = days} {book = book} d out k later full =
-    let same = k .rulebook ∙ blank-rulebook 1 ∙ sym (d .ours) in
-    let later : lastDate book < headerOf log .date = omega (arith, k .last, d .dated, later) in
-    let fits = book-fits (headerOf log .rulebook) (headerOf log .date) book (k .good) same later in
+day-leaves {log} {rs = rs} {book = book} d out days k later full =
+    let same = kept k .rulebook ∙ blank-rulebook (dayShape 1) 1 ∙ sym (d .ours) in
+    let later : lastDate book < headerOf log .date = omega (arith, kept k .last, d .dated, later) in
+    let good = good-sound (blank 1) days book k in
+    let fits = book-fits (headerOf log .rulebook) (headerOf log .date) book good same later in
     let long = eq-eqb (length (endRow 5)) (rowSize log) (row-long ∙ ap recordLength (sym (d .sized))) in
     let end = end-plain log rs (endRow 5) book (length out) long fits full ∙ d .five in record {
       found = _;
@@ -91,7 +97,7 @@ day-leaves {log} {rs = rs} {days = days} {book = book} d out k later full =
       goes =
           goes-on (opens log book out (d .good) fits)
           (goes-on (d .taken book out) (closes log rs book out (endRow 5) end));
-      kept = kept-day (blank 1) days log book rs k (ready log book (d .good) fits);
+      kept = ended-day (blank 1) days log book rs k (ready log book (d .good) fits);
       room = written-room (tablesOf log) rs (headerOf log .date) book out full;
     }
 
@@ -173,10 +179,10 @@ module _ (g : ℕ) (e : logFault (yearTables 2 g) ≡ 0) (f : logFault (yearTabl
       (yearDays g)
   unfolding yearWith lastOn
   year-leaves out room =
-      let none = kept-none (blank 1) (blank-sound 1 refl) in
-      let one = day-leaves (first-day g e) out none (omega (arith, blank-date 1)) room in
+      let none = no-day (blank-sound 1 refl) in
+      let one = day-leaves (first-day g e) out [] none (omega (arith, blank-date (dayShape 1) 1)) room in
       leaves-on one
-      (day-leaves (second-day g f) (one .out) (one .kept) (omega (arith, first-day g e .dated)) (one .room))
+      (day-leaves (second-day g f) (one .out) _ (one .kept) (omega (arith, first-day g e .dated)) (one .room))
 
   -- on the clerk's buffers
   leaves : Leaves (paper idle (blank 1) (replicate fullRoom 0) clerkCounts)
@@ -191,15 +197,16 @@ module _ (g : ℕ) (e : logFault (yearTables 2 g) ≡ 0) (f : logFault (yearTabl
     numbers-are = runs-read (λ x. numberIn (x .reply)) (clerk-rests (blank 1)) r ∙ leaves .goes .numbers
 
     -- the totals are the offence days of 2024
-    total-is : (l : ℕ) → l < ladders (kindsOf 1) → totalAt (left yearDesk gs .book) l ≡ offenceDays 2024 l (yearDays g)
-    unfolding lastOn
+    total-is : (l : ℕ) → l < ladders (kindsOf 1) → totalAt (left yearDesk gs .book) l
+        ≡ offenceDays 2024 l (allWritten (yearDays g))
+    unfolding lastOn dayShape
     total-is l h =
         let left-book = ap (λ (p : Paper). p .book) (leaves .goes .after) in
         let book = stands-book (runs-stand (clerk-rests (blank 1)) r) ∙ left-book in
         ap (λ (b : List ℕ). totalAt b l) book
-        ∙ leaves .kept .total l (rw (blank-rulebook 1) h)
-        ∙ blank-total 1 _ l (yearDays g) h
-        ∙ ap (λ (d : ℕ). offenceDays (year d) l (yearDays g)) (second-day g f .dated)
+        ∙ kept (leaves .kept) .total l (rw (blank-rulebook (dayShape 1) 1) h)
+        ∙ blank-total (dayShape 1) 1 _ l (allWritten (yearDays g)) h
+        ∙ ap (λ (d : ℕ). offenceDays (year d) l (allWritten (yearDays g))) (second-day g f .dated)
 
 -- the ladder of a group's self-trades in family 0
 abbrev selfs : ℕ → ℕ
@@ -210,12 +217,14 @@ unfolding kindsOf kindsIn firstKind
 selfs-there group h = omega arith
 
 -- computed: of group 3 and of group 4, before and after
-offences : (offenceDays 2024 (selfs 3) (yearDays 3) ≡ 1) × (offenceDays 2024 (selfs 4) (yearDays 3) ≡ 0)
-    × (offenceDays 2024 (selfs 3) (yearDays 4) ≡ 0) × (offenceDays 2024 (selfs 4) (yearDays 4) ≡ 2)
-unfolding yearTables tablesFor tradeOn firstRecords secondRecords offenceDays offenceOn offence reachesOn timesOf
-    howMany familyOf countsFor countsAs planOf planFor groupOf hasAccount contractOf accountOf contractPlace
-    accountPlace kindsOf kindsIn firstKind recordOf tablesOf tablesIn headerOf contractAt accountAt family enough
-    exempt known byThree first some every le pick
+offences : (offenceDays 2024 (selfs 3) (allWritten (yearDays 3)) ≡ 1)
+    × (offenceDays 2024 (selfs 4) (allWritten (yearDays 3)) ≡ 0)
+    × (offenceDays 2024 (selfs 3) (allWritten (yearDays 4)) ≡ 0)
+    × (offenceDays 2024 (selfs 4) (allWritten (yearDays 4)) ≡ 2)
+unfolding yearTables tablesFor tradeOn firstRecords secondRecords offenceDays offenceOn offends verdictOn lowestOn
+    lowest reachedAt timesOn timesOf howMany familyOf countsFor countsAs planOf planFor groupOf hasAccount contractOf
+    accountOf contractPlace accountPlace kindsOf kindsIn firstKind recordOf tablesOf tablesIn headerOf contractAt
+    accountAt family enough exempt known byThree first some every le pick
 offences = (refl, refl, refl, refl)
 
 -- ---- the year joined

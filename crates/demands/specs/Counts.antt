@@ -1,9 +1,8 @@
 -- 01, "What counts", over a day's tables and its records: how often, for whom, on which contract. No cells, no steps.
-use Prim.Native.Nat.{ℕ, _+_}
+use Prim.Native.Nat.{ℕ}
 use mathlib.Core.Bool.{Bool, _&&_}
-use mathlib.Core.List.{List, [], _∷_}
+use mathlib.Core.List.{List}
 use lib.Dec.{eqb}
-use Rattle.wire.specs.Choice.{pick}
 use Rattle.wire.specs.Below.{some}
 use Rattle.rules.specs.Measure.{times, enough, reached}
 use Rattle.daylog.specs.declared.record.Record.{Record}
@@ -11,12 +10,8 @@ use Rattle.tables.specs.Tables.{Tables}
 use Rattle.counts.specs.Counting.{countsFor}
 use Rattle.places.specs.Places.{groupAt, kindAt, familyAt}
 use Rattle.verdict.specs.Verdict.{Verdict}
+use Rattle.years.specs.Days.{howMany}
 use Rattle.desk.specs.Offences.{kindsOn, familyOf, verdictOn}
-
--- how many of a list pass the test
-unfoldable pub howMany : {A : Type 0} → (A → Bool) → List A → ℕ
-howMany test [] = 0
-howMany test (x ∷ xs) = pick (test x) 1 0 + howMany test xs
 
 -- how many records count for a group and a kind on the contract at a place: none that is exempt does
 unfoldable pub timesOf : Tables → List Record → (group kind place : ℕ) → ℕ

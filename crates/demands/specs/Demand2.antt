@@ -9,10 +9,10 @@ use Prim.Native.Nat.{ℕ, _<_}
 use lib.Dec.{eqb}
 use lib.ListN.{length, replicate}
 use Rattle.wire.specs.Choice.{pick}
-use Rattle.wire.specs.Buffers.{put, rows}
+use Rattle.wire.specs.Buffers.{put}
 use Rattle.calendar.specs.Dates.{year}
 use Rattle.rules.specs.Kinds.{kindsOf}
-use Rattle.book.specs.Shape.{rulebookOf}
+use Rattle.book.specs.Shape.{rulebookOf, shapeOf}
 use Rattle.places.specs.Places.{ladders}
 use Rattle.book.specs.Layout.{lastDate, totalAt}
 use Rattle.book.specs.Sound.{sound}
@@ -20,19 +20,20 @@ use Rattle.daylog.specs.declared.record.Record.{Record}
 use Rattle.daylog.specs.Header.{logFault, tablesOf}
 use Rattle.daylog.specs.Rows.{front, rowsOf}
 use Rattle.tables.specs.Tables.{Tables}
-use Rattle.verdict.specs.Verdict.{findings, foundCount}
+use Rattle.verdict.specs.Verdict.{offends, findings, foundCount}
+use Rattle.years.specs.Days.{carried, totalOver, bookOver, foundOver}
+use Rattle.years.specs.Restrictions.{Sanctioned}
 use Rattle.desk.specs.Books.{freshFault}
 use Rattle.desk.specs.declared.state.State.the-variants.{Closed}
 use Rattle.desk.specs.Offences.{lowestOn}
-use Rattle.demands.specs.Counts.{timesOn, reachesAt, dayVerdict}
-use Rattle.demands.specs.Days.{PastDay, endedDay, carried, totalOver, bookOver, foundOn, blank}
+use Rattle.demands.specs.Counts.{timesOn, reachesAt, offenceAt, dayVerdict}
+use Rattle.demands.specs.Days.{PastDay, endedDay, written, allWritten, blank}
 use Rattle.demands.specs.Listed.{Lists}
 use Rattle.demands.specs.Calls.{Step, makeBook, openDay, takeRecord, endDay, abandonDay, askBook, lendFindings}
 use Rattle.demands.specs.Calls.{Reply, numberIn, Desk, Given, Gives, Ran, left, fullRoom}
 use Rattle.demands.specs.Logs.{recordsIn, logNumber, ruledFile, Judges, Judged, JudgesAll, ruledLogs}
 use Rattle.demands.specs.Paper.{Course, idle, during, Paper, Ruled, endRefusal, freshBook, rule, rules}
 use Rattle.demands.specs.Lent.{lastOpened, CountsHold}
-use Rattle.demands.specs.Restrictions.{Sanctioned}
 
 -- ---- any list of steps
 -- what a caller sees of a step: its answer, and the book and the findings buffer as bytes
@@ -79,6 +80,12 @@ abbrev pub NeverUnsound : Type 0
 NeverUnsound = (w : Desk) (cs : List Step) (gs : List Given) → SoundRun w cs gs → None 17 gs
 
 -- ---- a day's findings
+-- a day's end goes by the records: "one offence of a kind in a family on a day if any contract of the family reaches
+-- the number", and none else. So what is said of days as they were written is said of their records
+abbrev pub OffencesCounted : Type 0
+OffencesCounted = (t : Tables) (rs : List Record) (ladder : ℕ)
+    → offends (dayVerdict t rs) ladder ≡ offenceAt t rs ladder
+
 abbrev pub FindingsListed : Type 0
 FindingsListed = (t : Tables) (rs : List Record) (date : ℕ) (book : List ℕ)
     → Lists t rs date book (findings (dayVerdict t rs) date book) (foundCount (dayVerdict t rs))
@@ -120,14 +127,14 @@ since w cs = history (begun w) (record { from = w .book; days = [] }) cs
 -- the book as bytes is that of the days that were ended: nothing else goes into it
 abbrev pub BookOfDays : Type 0
 BookOfDays = (w : Desk) (cs : List Step) (gs : List Given) → SoundRun w cs gs
-    → left w gs .book ≡ bookOver (since w cs .from) (since w cs .days)
+    → left w gs .book ≡ bookOver (shapeOf (since w cs .from)) (since w cs .from) (allWritten (since w cs .days))
 
 -- each total is what was carried into the year, and that year's days, among those, that were an offence
 abbrev pub TotalsCounted : Type 0
 TotalsCounted = (w : Desk) (cs : List Step) (gs : List Given) → SoundRun w cs gs → (ladder : ℕ) →
     let book = left w gs .book in
     ladder < ladders (kindsOf (rulebookOf book))
-    → totalAt book ladder ≡ totalOver (since w cs .from) (year (lastDate book)) ladder (since w cs .days)
+    → totalAt book ladder ≡ totalOver (since w cs .from) (year (lastDate book)) ladder (allWritten (since w cs .days))
 
 -- a fresh book is blank, and from a blank one nothing is carried: each total is the number of the year's offence days
 abbrev pub FreshIsBlank : Type 0
@@ -141,14 +148,17 @@ BlankCarriesNothing = (rulebook y ladder : ℕ) → ladder < ladders (kindsOf ru
 -- the sanctions in the findings are those of the totals
 abbrev pub SanctionsFound : Type 0
 SanctionsFound = (w : Desk) (cs : List Step) (gs : List Given) → SoundRun w cs gs
-    → Sanctioned (since w cs .from) (since w cs .days)
+    → Sanctioned (shapeOf (since w cs .from)) (since w cs .from) (allWritten (since w cs .days))
+
+-- what a day found on each ladder of the book `from`, after the days before it
+abbrev pub foundAll : List ℕ → PastDay → List PastDay → List ℕ
+foundAll from day before = foundOver (shapeOf from) from (written day) (allWritten before)
 
 -- an accepted end after any such run: one day more, and in the buffer, from its start, what it found on each ladder
 pub record Found (w : Desk) (cs : List Step) (gs : List Given) (row : List ℕ) (g : Given) : Type 0 where
   pub day : PastDay
   pub one-more : since w (cs ++ endDay row ∷ []) .days ≡ day ∷ since w cs .days
-  pub bytes : g .after .out ≡ put (left w gs .out) 0
-      (rows (foundOn (since w cs .from) day (since w cs .days)) (ladders (kindsOf (rulebookOf (since w cs .from)))))
+  pub bytes : g .after .out ≡ put (left w gs .out) 0 (foundAll (since w cs .from) day (since w cs .days))
 
 abbrev pub FindingsFound : Type 0
 FindingsFound = (w : Desk) (cs : List Step) (gs : List Given) → SoundRun w cs gs → (row : List ℕ) (g : Given)
@@ -183,11 +193,10 @@ lastFile book (j ∷ js) = lastFile (j .book) js
 
 abbrev pub FileOfDays : Type 0
 FileOfDays = (book : List ℕ) (logs : List (List ℕ)) (js : List Judged) → sound book ≡ true → JudgesAll book logs js
-    → lastFile book js ≡ bookOver book (logDays book [] logs)
+    → lastFile book js ≡ bookOver (shapeOf book) book (allWritten (logDays book [] logs))
 
 -- the findings buffer that is printed for the next log, where it is accepted: what its day found on each ladder
 abbrev pub LogsFound : Type 0
 LogsFound = (book : List ℕ) (logs : List (List ℕ)) (js : List Judged) → sound book ≡ true → JudgesAll book logs js
     → (log : List ℕ) (w : Desk) → Judges (lastFile book js) log 0 w
-    → w .out ≡ put (replicate fullRoom 0) 0
-    (rows (foundOn book (loggedDay log) (logDays book [] logs)) (ladders (kindsOf (rulebookOf book))))
+    → w .out ≡ put (replicate fullRoom 0) 0 (foundAll book (loggedDay log) (logDays book [] logs))

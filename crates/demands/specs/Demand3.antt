@@ -3,21 +3,21 @@
 -- for lists of calls and for day logs; proofs/Demand3 has the theorems under the same names.
 use mathlib.Core.Path.{_≡_}
 use mathlib.Core.Logic.{_⊎_}
-use mathlib.Core.Bool.{Bool, true, _&&_}
+use mathlib.Core.Bool.{Bool, true, _&&_, _||_}
 use mathlib.Core.List.{List, [], _∷_, map}
 use Prim.Native.Nat.{ℕ, _+_, _≤_, _<_}
-use lib.Dec.{leb}
+use lib.Dec.{leb, eqb}
 use lib.ListN.{length}
 use Rattle.rules.specs.declared.kinds.Kinds.{Kinds}
-use Rattle.rules.specs.Kinds.{kindsOf}
 use Rattle.rules.specs.Codes.{isRulebook}
-use Rattle.book.specs.Shape.{rulebookOf}
-use Rattle.places.specs.Places.{ladders, ladderOf, groupAt, HasCell, HasLadder}
-use Rattle.book.specs.Layout.{totalAt}
+use Rattle.places.specs.Places.{HasCell}
+use Rattle.book.specs.Shape.{dayShape, shapeOf}
 use Rattle.daylog.specs.Header.{tablesOf}
+use Rattle.years.specs.Restrictions.{sanctions, restrictions}
+use Rattle.years.specs.Joined.{Two, Other, YearJoined}
 use Rattle.desk.specs.declared.state.State.the-variants.{Closed}
 use Rattle.desk.specs.Offences.{kindsOn}
-use Rattle.demands.specs.Days.{PastDay, timesIn, offenceIn, foundOn, blank}
+use Rattle.demands.specs.Days.{PastDay, timesIn, offenceIn, allWritten, blank}
 use Rattle.demands.specs.Calls.{Step, makeBook, openDay, takeRecord, endDay, abandonDay, askBook, lendFindings}
 use Rattle.demands.specs.Calls.{numberIn, Desk, Given, numbers, Ran, left, fullRoom}
 use Rattle.demands.specs.Paper.{Course, idle, during}
@@ -25,20 +25,6 @@ use Rattle.demands.specs.Logs.{clerkCounts, Judged, JudgesAll}
 use Rattle.demands.specs.Lent.{cellIn, lastOpened}
 use Rattle.demands.specs.Demand2.{begun, since, logDays, lastFile}
 use Rattle.demands.specs.Join.{joinLog, Joined, between}
-use Rattle.demands.specs.Restrictions.{restrictions}
-
--- "a and b differ, both 1 to 128"
-pub record Two (a b : ℕ) : Type 0 where
-  pub first-a : 1 ≤ a
-  pub last-a : a ≤ 128
-  pub first-b : 1 ≤ b
-  pub last-b : b ≤ 128
-  pub differ : a ≡ b → ⊥
-
--- a group that is neither
-pub record Other (a b group : ℕ) : Type 0 where
-  pub not-a : group ≡ a → ⊥
-  pub not-b : group ≡ b → ⊥
 
 -- ---- what a join leaves of the counts: they add, on every contract
 -- `n` and `n′` count for a group, a kind and a contract's place, before and after; `across` trades between the two
@@ -50,8 +36,8 @@ pub record Added (kinds : Kinds) (a b : ℕ) (n n′ : (group kind place : ℕ) 
   pub others : (group kind place : ℕ) → HasCell kinds group kind place → Other a b group
       → n′ group kind place ≡ n group kind place
 
--- ---- of a day: `before` and `before′` are the days before it, on the book `from`
-pub record DayJoined (a b : ℕ) (from : List ℕ) (d d′ : PastDay) (before before′ : List PastDay) : Type 0 where
+-- ---- of a day, and of the same day joined: what it finds, and totals and restrictions, are in `YearJoined`
+pub record DayJoined (a b : ℕ) (d d′ : PastDay) : Type 0 where
   pub date : d′ .date ≡ d .date
   pub records : d′ .records ≡ d .records
   pub tables : Joined a b (d .tables) (d′ .tables)
@@ -60,35 +46,17 @@ pub record DayJoined (a b : ℕ) (from : List ℕ) (d d′ : PastDay) (before be
   -- is one of the joined group on the same ladder."
   pub stays : (kind family : ℕ) → (offenceIn d a kind family ≡ true) ⊎ (offenceIn d b kind family ≡ true)
       → offenceIn d′ b kind family ≡ true
-  -- other groups' findings are as they were, byte for byte, and group a has none any more
-  pub others : (l : ℕ) → l < ladders (kindsOn (d .tables)) → Other a b (groupAt (kindsOn (d .tables)) l)
-      → foundOn from d′ before′ l ≡ foundOn from d before l
-  pub gone : (l : ℕ) → l < ladders (kindsOn (d .tables)) → groupAt (kindsOn (d .tables)) l ≡ a
-      → foundOn from d′ before′ l ≡ []
 
-pub data DaysJoined (a b : ℕ) (from : List ℕ) : List PastDay → List PastDay → Type 0 where
-  none : DaysJoined a b from [] []
-  more : {d d′ : PastDay} {days days′ : List PastDay} → DayJoined a b from d d′ days days′
-      → DaysJoined a b from days days′ → DaysJoined a b from (d ∷ days) (d′ ∷ days′)
+pub data DaysJoined (a b : ℕ) : List PastDay → List PastDay → Type 0 where
+  none : DaysJoined a b [] []
+  more : {d d′ : PastDay} {days days′ : List PastDay} → DayJoined a b d d′ → DaysJoined a b days days′
+      → DaysJoined a b (d ∷ days) (d′ ∷ days′)
 
--- ---- of the days and the books that they leave: totals at the end, and opening restrictions in each year
--- group g had no more on a kind's ladder in a family than group b has after the join
-pub record NoFewer (kinds : Kinds) (g b : ℕ) (from book book′ : List ℕ) (days days′ : List PastDay)
-    (kind family : ℕ) : Type 0 where
-  pub totals : totalAt book (ladderOf kinds g kind family) ≤ totalAt book′ (ladderOf kinds b kind family)
-  pub restricted : (y : ℕ)
-      → restrictions from y (ladderOf kinds g kind family) days
-      ≤ restrictions from y (ladderOf kinds b kind family) days′
-
-pub record YearJoined (kinds : Kinds) (a b : ℕ) (from book book′ : List ℕ) (days days′ : List PastDay) : Type 0 where
-  pub each : DaysJoined a b from days days′
-  pub than-a : (kind family : ℕ) → HasLadder kinds a kind family
-      → NoFewer kinds a b from book book′ days days′ kind family
-  pub than-b : (kind family : ℕ) → HasLadder kinds b kind family
-      → NoFewer kinds b b from book book′ days days′ kind family
-  -- "all other groups' findings and totals are exactly as they were, and group a has none any more"
-  pub others : (l : ℕ) → l < ladders kinds → Other a b (groupAt kinds l) → totalAt book′ l ≡ totalAt book l
-  pub gone : (l : ℕ) → l < ladders kinds → groupAt kinds l ≡ a → totalAt book′ l ≡ 0
+-- "its number of opening restrictions (findings with sanction 3 or 5)": of the desk's days there are no others
+abbrev pub ThreeOrFive : Type 0
+ThreeOrFive = (from : List ℕ) (y ladder : ℕ) (days : List PastDay)
+    → restrictions from y ladder (allWritten days)
+    ≡ sanctions (λ s. eqb s 3 || eqb s 5) from y ladder (allWritten days)
 
 -- ---- any list of steps from a fresh book, and the same with the two groups joined in every table
 -- a findings buffer that is lent between may be another
@@ -164,9 +132,12 @@ pub record RunJoined (a b : ℕ) (w w′ : Desk) (cs cs′ : List Step) (gs gs�
   pub same-numbers : SameNumbers gs gs′
   pub cells-add : CellsAdded a b (lastOpened (begun w) idle cs) (left w gs .counts) (left w′ gs′ .counts)
   pub same-book : since w′ cs′ .from ≡ since w cs .from
-  pub year : YearJoined (kindsOf (rulebookOf (since w cs .from))) a b (since w cs .from)
+  -- each day's counts and offences
+  pub each : DaysJoined a b (since w cs .days) (since w′ cs′ .days)
+  -- and its findings, with the totals and the restrictions of the days
+  pub year : YearJoined (shapeOf (since w cs .from)) a b (since w cs .from)
       (left w gs .book) (left w′ gs′ .book)
-      (since w cs .days) (since w′ cs′ .days)
+      (allWritten (since w cs .days)) (allWritten (since w′ cs′ .days))
 
 abbrev pub NothingLost : Type 0
 NothingLost = (a b rulebook : ℕ) (w w′ : Desk) (cs cs′ : List Step) (gs gs′ : List Given)
@@ -176,9 +147,14 @@ NothingLost = (a b rulebook : ℕ) (w w′ : Desk) (cs cs′ : List Step) (gs gs
 pub record LogsJoined (a b rulebook : ℕ) (logs : List (List ℕ)) (js js′ : List Judged) : Type 0 where
   -- each log gets the number that it had: an accepted one is accepted again
   pub same-numbers : map (λ j. j .number) js′ ≡ map (λ j. j .number) js
-  pub year : YearJoined (kindsOf rulebook) a b (blank rulebook)
+  -- each day's counts and offences
+  pub each : DaysJoined a b (logDays (blank rulebook) [] logs)
+      (logDays (blank rulebook) [] (map (joinLog a b) logs))
+  -- and its findings, with the totals and the restrictions of the days
+  pub year : YearJoined (dayShape rulebook) a b (blank rulebook)
       (lastFile (blank rulebook) js) (lastFile (blank rulebook) js′)
-      (logDays (blank rulebook) [] logs) (logDays (blank rulebook) [] (map (joinLog a b) logs))
+      (allWritten (logDays (blank rulebook) [] logs))
+      (allWritten (logDays (blank rulebook) [] (map (joinLog a b) logs)))
 
 abbrev pub NothingLostInLogs : Type 0
 NothingLostInLogs = (a b rulebook : ℕ) (logs : List (List ℕ)) (js js′ : List Judged)

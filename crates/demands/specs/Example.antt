@@ -10,10 +10,10 @@ use Rattle.rules.specs.Kinds.{kindsOf}
 use Rattle.places.specs.Places.{ladderOf}
 use Rattle.daylog.specs.declared.record.Record.{Record}
 use Rattle.tables.specs.Tables.{Tables}
-use Rattle.demands.specs.Days.{PastDay, blank}
+use Rattle.years.specs.Restrictions.{sanctions, restrictions}
+use Rattle.demands.specs.Days.{PastDay, allWritten, blank}
 use Rattle.demands.specs.Samples.{futures, plainTrade}
 use Rattle.demands.specs.Join.{Joined}
-use Rattle.demands.specs.Restrictions.{sanctions, restrictions}
 
 -- ---- the days
 -- rulebook 1 and one futures contract, 101; account 11, a client, in a group, and account 12, a non-broker member, in
@@ -47,11 +47,11 @@ daysWith group = tradingDay 20240104 group ∷ tradingDay 20240103 group ∷ tra
 -- ---- the two ways to count, in 2024, on the ladder of a group for self-trades in futures
 -- findings with sanction 3
 unfoldable pub threeAlone : (group : ℕ) → List PastDay → ℕ
-threeAlone group days = sanctions (λ s. eqb s 3) (blank 1) 2024 (ladderOf (kindsOf 1) group 1 0) days
+threeAlone group days = sanctions (λ s. eqb s 3) (blank 1) 2024 (ladderOf (kindsOf 1) group 1 0) (allWritten days)
 
--- findings with sanction 3 or 5
+-- findings with an opening restriction: of kinds 1 to 3 it is sanction 3 or 5
 unfoldable pub threeOrFive : (group : ℕ) → List PastDay → ℕ
-threeOrFive group days = restrictions (blank 1) 2024 (ladderOf (kindsOf 1) group 1 0) days
+threeOrFive group days = restrictions (blank 1) 2024 (ladderOf (kindsOf 1) group 1 0) (allWritten days)
 
 pub record WhyThreeOrFive : Type 0 where
   -- the tables after are those before with group 1 joined to group 2

@@ -11,13 +11,10 @@ use Rattle.daylog.specs.declared.record.Record.{Record}
 use Rattle.daylog.specs.Header.{headerOf}
 use Rattle.tables.specs.Tables.{Tables, contractOf, groupOf}
 use Rattle.counts.specs.Counting.{exempt1, exempt2}
-use Rattle.demands.specs.Counts.{howMany}
+use Rattle.years.specs.Days.{howMany}
+use Rattle.years.specs.Joined.{joined}
 
 -- ---- the change of bytes
--- the number of a group after the join
-abbrev pub joined : (a b group : ℕ) → ℕ
-joined a b group = pick (eqb group a) b group
-
 -- where the account entries of a log begin, and where they end
 abbrev pub accountsFrom : Header → ℕ
 accountsFrom h = 16 + 8 * h .contracts

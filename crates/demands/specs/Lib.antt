@@ -5,7 +5,6 @@ pub mod Calls
 pub mod Paper
 pub mod Lent
 pub mod Logs
-pub mod Restrictions
 pub mod Demand1
 pub mod Demand2
 pub mod Join

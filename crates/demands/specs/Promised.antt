@@ -1,10 +1,11 @@
 -- Every statement of demands 1 to 3, the two tables and the examples, as one record: a function of src/lib.rt has it
 -- for its contract, so that a theorem that goes fails the gate.
 use Rattle.demands.specs.Demand1.{AlwaysAnswered, OneAnswer, NumberNamed, ValuesNamed, RefusalKeeps}
-use Rattle.demands.specs.Demand2.{CallsRuled, CellsCounted, NeverChanged, NeverUnsound, FindingsListed}
-use Rattle.demands.specs.Demand2.{LowestId, BookOfDays, TotalsCounted, FreshIsBlank, BlankCarriesNothing}
-use Rattle.demands.specs.Demand2.{SanctionsFound, FindingsFound, LogsRuled, AlwaysRead, FileOfDays, LogsFound}
-use Rattle.demands.specs.Demand3.{NothingLost, NothingLostInLogs}
+use Rattle.demands.specs.Demand2.{CallsRuled, CellsCounted, NeverChanged, NeverUnsound, OffencesCounted}
+use Rattle.demands.specs.Demand2.{FindingsListed, LowestId, BookOfDays, TotalsCounted, FreshIsBlank}
+use Rattle.demands.specs.Demand2.{BlankCarriesNothing, SanctionsFound, FindingsFound, LogsRuled, AlwaysRead}
+use Rattle.demands.specs.Demand2.{FileOfDays, LogsFound}
+use Rattle.demands.specs.Demand3.{ThreeOrFive, NothingLost, NothingLostInLogs}
 use Rattle.demands.specs.Example.{WhyThreeOrFive}
 use Rattle.demands.specs.MarketMakers.{MarketMakers}
 use Rattle.demands.specs.Starred.{Starred}
@@ -25,6 +26,7 @@ pub record Promised : Type 0 where
   pub cells-counted : CellsCounted
   pub never-changed : NeverChanged
   pub never-unsound : NeverUnsound
+  pub offences-counted : OffencesCounted
   pub findings-listed : FindingsListed
   pub lowest-id : LowestId
   pub book-of-days : BookOfDays
@@ -42,6 +44,7 @@ pub record Promised : Type 0 where
   pub whoever-sent : WhoeverSent
   pub whoever-sent-logs : WhoeverSentLogs
   -- demand 3, over lists of calls and over day logs
+  pub three-or-five : ThreeOrFive
   pub nothing-lost : NothingLost
   pub nothing-lost-in-logs : NothingLostInLogs
   pub why-three-or-five : WhyThreeOrFive

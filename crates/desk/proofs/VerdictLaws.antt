@@ -1,9 +1,8 @@
 -- A day's verdict as bytes is the day's verdict by its cells. Assumes nothing.
 use mathlib.Core.Path.{_≡_, refl, sym, ap, _∙_, subst}
 use mathlib.Core.Bool.{Bool, true, false, _&&_}
-use mathlib.Core.List.{List, [], _∷_}
-use Prim.Native.Nat.{ℕ, zero, suc, _+_, _-_, _*_, _/_, _<_, _≤_}
-use native.Mathlib.Nat.{zero-add, not-suc-le-zero, le-of-suc-le-suc}
+use mathlib.Core.List.{List}
+use Prim.Native.Nat.{ℕ, _+_, _-_, _*_, _/_, _<_, _≤_}
 use native.Mathlib.Omega.{arith}
 use borrow.Author.Tests.{lt-ltb}
 use lib.Dec.{eqb}
@@ -15,8 +14,9 @@ use Rattle.wire.specs.Bytes.{le, bytes}
 use Rattle.wire.specs.Buffers.{rows}
 use Rattle.wire.proofs.ChoiceLaws.{pick-yes}
 use Rattle.wire.proofs.BelowLaws.{first-cong}
-use Rattle.wire.proofs.ByteLaws.{bytes-length, le-bytes, le-cong, le-two}
-use Rattle.wire.proofs.BufferLaws.{ones-at, ones-length, rows-at, rows-length}
+use Rattle.wire.proofs.ByteLaws.{bytes-length, pair-low}
+use Rattle.wire.proofs.BufferLaws.{ones-at, ones-length, pair-at, rows-length}
+use Rattle.wire.proofs.PartLaws.{there, low-take}
 use Rattle.rules.specs.declared.text.Text.{Text}
 use Rattle.rules.specs.declared.kinds.Kinds.{Kinds}
 use Rattle.rules.specs.Kinds.{kindsOf}
@@ -44,29 +44,6 @@ use Rattle.desk.specs.Way.{familyIn, familiesIn, placeAt, placesIn, dayP
 pub entry-in : (s : List ℕ) (k : ℕ) → k < entries s → contractIn s k ≡ contractAt s k
 unfolding contractIn
 entry-in s k h = sym (pick-yes _ _ _ _ (lt-ltb _ _ h) refl)
-
--- a byte that is there has no default
-there : (s : List ℕ) (i d : ℕ) → i < length s → getD s i d ≡ getD s i 0
-there [] i d h = absurd (not-suc-le-zero h)
-there (x ∷ xs) zero d h = refl
-there (x ∷ xs) (suc i) d h = there xs i d (le-of-suc-le-suc h)
-
--- bytes of a part are bytes
-low-take : (n : ℕ) (s : List ℕ) → ((j : ℕ) → getD s j 0 < 256) → (j : ℕ) → getD (take n s) j 0 < 256
-low-take zero s small j = omega arith
-low-take (suc n) [] small j = omega arith
-low-take (suc n) (x ∷ xs) small zero = small 0
-low-take (suc n) (x ∷ xs) small (suc j) = low-take n xs (λ i. small (suc i)) j
-
--- 16 bits that stand in bytes are a number of 16 bits
-pair-low : (s : List ℕ) (i : ℕ) → ((j : ℕ) → getD s j 0 < 256) → le 2 s i < 65536
-pair-low s i small = let e = le-two s i (i + 1) refl in omega (arith, small i, small (i + 1))
-
--- the 16 bits at a place of a row of them
-pair-at : (f : ℕ → ℕ) (n k : ℕ) → k < n → f k < 65536 → le 2 (rows (λ j. bytes 2 (f j)) n) (2 * k) ≡ f k
-pair-at f n k h w =
-    le-cong 2 (rows (λ j. bytes 2 (f j)) n) (bytes 2 (f k)) (2 * k) 0
-    (λ i m. rw zero-add (rows-at (λ j. bytes 2 (f j)) 2 (λ j. bytes-length 2 (f j)) n k i h m)) ∙ le-bytes 2 (f k) w
 
 module _ (text : Text) (contracts accounts c : List ℕ) where
   abbrev day : Tables

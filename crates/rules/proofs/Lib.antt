@@ -1,3 +1,4 @@
+pub mod FamilyLaws
 pub mod KindLaws
 pub mod SheetLaws
 pub mod Unique

@@ -16,6 +16,7 @@ use Rattle.rules.proofs.kinds.first_kind.Reads as first-kind
 use Rattle.rules.proofs.ladder.family_of.Reads as family-of
 use Rattle.rules.proofs.ladder.rung_of.Reads as rung-of
 use Rattle.rules.proofs.ladder.sanction_of.Reads as sanction-of
+use Rattle.rules.proofs.limit.is_over.Reads as is-over
 use Rattle.rules.proofs.measure.is_large.Reads as is-large
 use Rattle.rules.proofs.measure.enough_of.Reads as enough-of
 use Rattle.rules.proofs.measure.is_reached.Reads as is-reached
@@ -62,6 +63,10 @@ rung-of-unique κs a r₁ r₂ s₁ s₂ p q = p ∙ sym q
 pub sanction-of-unique : (κs : _) (a : _) (r₁ r₂ : ℕ) (s₁ s₂ : _)
     → sanction-of.Post κs a r₁ s₁ → sanction-of.Post κs a r₂ s₂ → r₁ ≡ r₂
 sanction-of-unique κs a r₁ r₂ s₁ s₂ p q = p ∙ sym q
+
+pub is-over-unique : (κs : _) (a : _) (r₁ r₂ : Bool) (s₁ s₂ : _)
+    → is-over.Post κs a r₁ s₁ → is-over.Post κs a r₂ s₂ → r₁ ≡ r₂
+is-over-unique κs a r₁ r₂ s₁ s₂ p q = p ∙ sym q
 
 pub is-large-unique : (κs : _) (a : _) (r₁ r₂ : Bool) (s₁ s₂ : _)
     → is-large.Post κs a r₁ s₁ → is-large.Post κs a r₂ s₂ → r₁ ≡ r₂

@@ -4,4 +4,5 @@ pub mod Codes
 pub mod Exemption
 pub mod Sheet
 pub mod Measure
+pub mod Limits
 pub mod Ladders

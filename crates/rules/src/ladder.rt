@@ -48,7 +48,11 @@ fn by_three(x: u8, first: u8, second: u8, third: u8, other: u8) -> u8
 pub fn sanction_of(rulebook: u8, kind: u8, rung: u8, member: bool) -> u8
     ensures { λ r. ⌜ r ≡ sanction rulebook kind rung member ⌝ }
 {
-    if !(((1 <= kind) & (kind <= 3)) & is_rulebook(rulebook as u64)) {
+    let known = is_rulebook(rulebook as u64);
+    if (kind == 5) & known {
+        return by_three(rung, 2, 7, 8, 0);
+    }
+    if !(((1 <= kind) & (kind <= 3)) & known) {
         return 0;
     }
     if (rulebook == 1) & member {

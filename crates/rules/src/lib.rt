@@ -5,6 +5,7 @@ pub mod codes;
 pub mod exemption;
 pub mod kinds;
 pub mod ladder;
+pub mod limit;
 pub mod lookup;
 pub mod measure;
 pub mod sheet;

@@ -1,25 +1,25 @@
 -- Laws of table entries: an entry is its two numbers of 32 bits; the search for a contract. Assumes nothing.
 use mathlib.Core.Path.{_≡_, refl, sym, ap, ap₂, _∙_}
 use mathlib.Core.List.{List}
-use Prim.Native.Nat.{ℕ, _+_, _*_, _/_, _%_, _<_}
+use Prim.Native.Nat.{ℕ, _+_, _*_, _/_, _%_, _≤_, _<_}
 use native.Mathlib.Numerals.{add-one}
 use native.Mathlib.Omega.{arith}
 use lib.ListN.{getD}
-use Rattle.wire.specs.Choice.{pick}
+use Rattle.wire.specs.Choice.{pick, within}
 use Rattle.wire.specs.Bytes.{le}
 use Rattle.wire.proofs.ByteLaws.{le-two, le-four}
-use Rattle.tables.specs.Accounts.{accountAt, numberBefore}
+use Rattle.tables.specs.Accounts.{accountAt, numberBefore, accountGoodAt, accountsGood}
 use Rattle.tables.specs.Contracts.{contractAt, idBefore, contractPlace, foundContract, isFound, placeFound}
 use Rattle.tables.specs.Way.{accountFrom, contractFrom}
 use Rattle.tables.specs.declared.contracts.Contract.{Contract}
 use Rattle.tables.specs.declared.contracts.Found.{Found}
 use Rattle.tables.specs.declared.contracts.Found.the-variants.{At, Nothing}
 use Rattle.tables.specs.Entries.{entries}
-use Rattle.wire.proofs.ChoiceLaws.{pick-yes, pick-no}
-use Rattle.wire.proofs.BelowLaws.{first-at, first-none}
+use Rattle.wire.proofs.ChoiceLaws.{pick-yes, pick-no, and-left, and-right, bounds}
+use Rattle.wire.proofs.BelowLaws.{every-at, first-at, first-none}
 use borrow.Author.Tests.{eq-eqb, lt-ltb, le-ltb}
 use lib.Dec.{ltb, eqb}
-use mathlib.Core.Bool.{Bool, true, false}
+use mathlib.Core.Bool.{Bool, true, false, _&&_}
 
 -- the low byte of a number
 low : (b x : ℕ) → b < 256 → (b + 256 * x) % 256 ≡ b
@@ -98,3 +98,16 @@ values-found s id = go (ltb (contractPlace (contractAt s) (entries s) id) (entri
     go : (t : Bool) → (isFound (pick t at Nothing) ≡ t) × (placeFound (pick t at Nothing) ≡ pick t (placeFound at) 0)
     go true = (refl, refl)
     go false = (refl, refl)
+
+-- a good table's groups are 1 to 128
+pub group-at : (s : List ℕ) → accountsGood s ≡ true → (k : ℕ) → k < entries s → (1 ≤ accountAt s k .group)
+    × (accountAt s k .group ≤ 128)
+unfolding accountsGood
+group-at s e k h =
+    let rises = ltb (numberBefore s k) (accountAt s k .number) in
+    let group = within 1 128 (accountAt s k .group) in
+    let kind = within 1 2 (accountAt s k .kind) in
+    let spare = eqb (accountAt s k .spare) 0 in
+    let good : rises && group && kind && spare ≡ true = every-at (accountGoodAt s) (entries s) k e h in
+    bounds 1 128 (accountAt s k .group)
+    (and-right rises group (and-left (rises && group) kind (and-left (rises && group && kind) spare good)))

@@ -6,7 +6,7 @@ use mathlib.Core.List.{List, []}
 use lib.Dec.{ltb, eqb}
 use lib.ListN.{getD, take, drop}
 use Rattle.wire.specs.Choice.{pick, within}
-use Rattle.wire.specs.Below.{every, some, first}
+use Rattle.wire.specs.Below.{every, some, count, first}
 use Rattle.wire.specs.Bytes.{le}
 use Rattle.tables.specs.declared.accounts.Account.{Account}
 use Rattle.tables.specs.Entries.{entries}
@@ -38,9 +38,21 @@ accountsGood s = every (accountGoodAt s) (entries s)
 unfoldable pub hasMember : (ℕ → Account) → (accounts group : ℕ) → Bool
 hasMember account accounts group = some (λ k. eqb (account k .group) group && eqb (account k .kind) 2) accounts
 
+-- how many accounts a group has: "A group may have no account."
+unfoldable pub groupSize : (ℕ → Account) → (accounts group : ℕ) → ℕ
+groupSize account accounts group = count (λ k. eqb (account k .group) group) accounts
+
 -- the place of an account, or the number of entries where it is not there
 unfoldable pub accountPlace : (ℕ → Account) → (accounts number : ℕ) → ℕ
 accountPlace account accounts number = first (λ k. eqb (account k .number) number) accounts
+
+-- an account is in the table; and its group, 0 where it is not
+unfoldable pub isIn : (ℕ → Account) → (accounts number : ℕ) → Bool
+isIn account accounts number = ltb (accountPlace account accounts number) accounts
+
+unfoldable pub groupIn : (ℕ → Account) → (accounts number : ℕ) → ℕ
+groupIn account accounts number =
+    pick (isIn account accounts number) (account (accountPlace account accounts number) .group) 0
 
 -- "the search for an account hands back its entry as that part of the lent tables": its 8 bytes, or none
 unfoldable pub accountEntry : List ℕ → ℕ → List ℕ

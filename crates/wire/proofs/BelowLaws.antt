@@ -10,7 +10,7 @@ use native.Mathlib.Omega.{arith}
 use borrow.Author.Tests.{ltb-true, ltb-false, not-true}
 use lib.Dec.{ltb}
 use Rattle.wire.specs.Choice.{pick}
-use Rattle.wire.specs.Below.{every, some, count, first}
+use Rattle.wire.specs.Below.{every, some, count, sum, first}
 use Rattle.wire.proofs.ChoiceLaws.{and-left, and-right, pick-yes, pick-no, pick-le, flip-yes, flip-no}
 
 module _ (p : ℕ → Bool) where
@@ -78,6 +78,18 @@ module _ (p q : ℕ → Bool) where
   count-cong zero h = refl
   count-cong (suc n) h =
       ap₂ (λ (a : ℕ) (b : Bool). a + pick b 1 0) (count-cong n (λ k l. h k (omega arith))) (h n (omega arith))
+
+module _ (f g : ℕ → ℕ) where
+  pub sum-cong : (n : ℕ) → ((k : ℕ) → k < n → f k ≡ g k) → sum f n ≡ sum g n
+  unfolding sum
+  sum-cong zero h = refl
+  sum-cong (suc n) h = ap₂ (λ (a b : ℕ). a + b) (sum-cong n (λ k l. h k (omega arith))) (h n (omega arith))
+
+-- a count is a sum of ones
+pub count-sum : (p : ℕ → Bool) (n : ℕ) → sum (λ k. pick (p k) 1 0) n ≡ count p n
+unfolding sum count
+count-sum p zero = refl
+count-sum p (suc n) = ap (λ (m : ℕ). m + pick (p n) 1 0) (count-sum p n)
 
 -- the first that passes
 pub first-at : (p : ℕ → Bool) (i n : ℕ) → i < n → ((k : ℕ) → k < i → p k ≡ false) → p i ≡ true → first p n ≡ i

@@ -216,3 +216,9 @@ ones-at f n i h =
 
 pub ones-length : (f : ℕ → ℕ) (n : ℕ) → length (rows (λ k. f k ∷ []) n) ≡ n
 ones-length f n = omega (arith, rows-length (λ k. f k ∷ []) 1 (λ _. refl) n)
+
+-- the 16 bits at a place of a row of them
+pub pair-at : (f : ℕ → ℕ) (n k : ℕ) → k < n → f k < 65536 → le 2 (rows (λ j. bytes 2 (f j)) n) (2 * k) ≡ f k
+pair-at f n k h w =
+    le-cong 2 (rows (λ j. bytes 2 (f j)) n) (bytes 2 (f k)) (2 * k) 0
+    (λ i m. rw zero-add (rows-at (λ j. bytes 2 (f j)) 2 (λ j. bytes-length 2 (f j)) n k i h m)) ∙ le-bytes 2 (f k) w

@@ -32,6 +32,15 @@ pub le-four : (s : List ℕ) (i j k l : ℕ) → j ≡ i + 1 → k ≡ i + 2 →
 le-four s i j k l ej ek el =
     omega (arith, le-split 2 2 s i, le-two s i j ej, le-two s (i + 2) l (omega arith), ap (λ (n : ℕ). getD s n 0) ek)
 
+-- numbers in bytes of 8 bits: 16 bits, and 32
+pub pair-low : (s : List ℕ) (i : ℕ) → ((j : ℕ) → getD s j 0 < 256) → le 2 s i < 65536
+pair-low s i small = let e = le-two s i (i + 1) refl in omega (arith, small i, small (i + 1))
+
+pub four-low : (s : List ℕ) (i : ℕ) → ((j : ℕ) → getD s j 0 < 256) → le 4 s i < 4294967296
+four-low s i small =
+    let e = le-four s i (i + 1) (i + 2) (i + 3) refl refl refl in
+    omega (arith, small i, small (i + 1), small (i + 2), small (i + 3))
+
 -- two places whose bytes agree hold the same number
 pub le-cong : (n : ℕ) (s t : List ℕ) (i j : ℕ) → ((k : ℕ) → k < n → getD s (i + k) 0 ≡ getD t (j + k) 0)
     → le n s i ≡ le n t j

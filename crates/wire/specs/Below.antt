@@ -17,6 +17,11 @@ unfoldable pub count : (ℕ → Bool) → ℕ → ℕ
 count p zero = 0
 count p (suc n) = count p n + pick (p n) 1 0
 
+-- f 0 + f 1 + .. + f (n - 1)
+unfoldable pub sum : (ℕ → ℕ) → ℕ → ℕ
+sum f zero = 0
+sum f (suc n) = sum f n + f n
+
 -- the first number below n that passes the test, or n where none does
 unfoldable pub first : (ℕ → Bool) → ℕ → ℕ
 first p zero = zero

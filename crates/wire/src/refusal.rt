@@ -62,3 +62,6 @@ pub const FINDINGS_SHORT: u32 = 20;
 
 // The group, kind or family asked for is out of range.
 pub const OUT_OF_RANGE: u32 = 21;
+
+// A fault in a position log: its length, its header, an entry, a record, a number that its tables do not have.
+pub const POSITION_LOG: u32 = 22;

@@ -1,9 +1,10 @@
 -- `demands::promised` meets its contract: every statement has its theorem. Assumes nothing.
 use Rattle.demands.proofs.Demand1.{always-answered, one-answer, number-named, values-named, refusal-keeps}
 use Rattle.demands.proofs.Demand2.{calls-ruled, cells-counted, never-changed, never-unsound, findings-listed}
-use Rattle.demands.proofs.Demand2.{lowest-id, book-of-days, totals-counted, fresh-is-blank}
+use Rattle.demands.proofs.Demand2.{offences-counted, lowest-id, book-of-days, totals-counted, fresh-is-blank}
 use Rattle.demands.proofs.Demand2.{blank-carries-nothing, sanctions-found, findings-found, logs-ruled}
 use Rattle.demands.proofs.Demand2.{always-read, file-of-days, logs-found}
+use Rattle.demands.proofs.RestrictLaws.{three-or-five}
 use Rattle.demands.proofs.Demand3.{nothing-lost, nothing-lost-in-logs}
 use Rattle.demands.proofs.Example.{why-three-or-five}
 use Rattle.demands.proofs.MarketMakers.{market-makers}
@@ -26,6 +27,7 @@ returns c = record {
   cells-counted = cells-counted;
   never-changed = never-changed;
   never-unsound = never-unsound;
+  offences-counted = offences-counted;
   findings-listed = findings-listed;
   lowest-id = lowest-id;
   book-of-days = book-of-days;
@@ -40,6 +42,7 @@ returns c = record {
   logs-found = logs-found;
   whoever-sent = whoever-sent;
   whoever-sent-logs = whoever-sent-logs;
+  three-or-five = three-or-five;
   nothing-lost = nothing-lost;
   nothing-lost-in-logs = nothing-lost-in-logs;
   why-three-or-five = why-three-or-five;

@@ -6,8 +6,8 @@ use Rattle.book.proofs.sound.head_good.Tie as tie
 get32-requires : tie.Need-get32-requires
 get32-requires c κs = search needs
 
-mark-good-requires : tie.Need-mark-good-requires
-mark-good-requires c κs = search needs
+is-marked-requires : tie.Need-is-marked-requires
+is-marked-requires c κs = search needs
 
 get8-requires : tie.Need-get8-requires
 get8-requires c κs = search needs
@@ -35,7 +35,7 @@ returns c =
     let zeros = c .before .before in
     let known = zeros .before .before in
     let marked = known .before .before in
-    head-tests _ _ (marked .mark-good .ensures) (known .before .get8 .ensures) (known .is-rulebook .ensures)
+    head-tests _ _ (marked .is-marked .ensures) (known .before .get8 .ensures) (known .is-rulebook .ensures)
     (zeros .before .get16 .ensures) (zeros .get162 .ensures) (c .before .get322 .ensures)
     (marked .before .get32 .ensures) (c .is-day .ensures)
 
@@ -44,7 +44,7 @@ head-good-spec =
     tie.close
     (tie.spec
     get32-requires
-    mark-good-requires
+    is-marked-requires
     get8-requires
     cast-is-rulebook
     is-rulebook-requires

@@ -7,7 +7,7 @@ use native.Mathlib.Omega.{arith}
 use lib.ListN.{length}
 use Rattle.wire.specs.Choice.{pick}
 use Rattle.wire.proofs.ChoiceLaws.{pick-no, pick-le}
-use Rattle.demands.specs.Counts.{howMany}
+use Rattle.years.specs.Days.{howMany}
 
 pub many-le : {A : Type 0} (test : A → Bool) (xs : List A) → howMany test xs ≤ length xs
 unfolding howMany

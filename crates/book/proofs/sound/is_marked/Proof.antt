@@ -2,8 +2,8 @@ use mathlib.Core.Path.{ap, ap₂}
 use mathlib.Core.Bool.{_&&_}
 use borrow.Author.Needs.{needs}
 use lib.Dec.{eqb}
-use Rattle.book.proofs.sound.mark_good.Statement.{statement}
-use Rattle.book.proofs.sound.mark_good.Tie as tie
+use Rattle.book.proofs.sound.is_marked.Statement.{statement}
+use Rattle.book.proofs.sound.is_marked.Tie as tie
 
 get8-requires : tie.Need-get8-requires
 get8-requires c κs = search needs
@@ -26,8 +26,8 @@ returns c =
     (ap₂ (λ x y. eqb x 0x41 && eqb y 0x58) (c .before .before .get8 .ensures) (c .before .get82 .ensures))
     (ap (λ x. eqb x (c .before .before .before .before .args .letter)) (c .get83 .ensures))
 
-pub mark-good-spec : {M : Type 1} → statement M
-mark-good-spec =
+pub is-marked-spec : {M : Type 1} → statement M
+is-marked-spec =
     tie.close
     (tie.spec
     get8-requires

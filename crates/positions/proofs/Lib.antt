@@ -1,0 +1,9 @@
+pub mod EntryLaws
+pub mod FaultLaws
+pub mod OverLaws
+pub mod RecordLaws
+pub mod SumLaws
+pub mod VerdictLaws
+pub mod ReadLaws
+pub mod JudgeLaws
+pub mod Unique

@@ -1,0 +1,3 @@
+pub mod OffenceLaws
+pub mod Demand1
+pub mod Demand2

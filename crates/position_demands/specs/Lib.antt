@@ -1,0 +1,5 @@
+pub mod Calls
+pub mod Demand1
+pub mod Demand2
+pub mod Promised
+pub mod Tied

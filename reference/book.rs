@@ -1,9 +1,20 @@
-//! The yearly book (document 01, "Layouts").
+//! The yearly books (document 01, "Layouts"): that of the days, and that of positions, which has one kind (document 02,
+//! K4) and is otherwise the same.
 use crate::dates;
 use crate::rules::{FAMILIES, GROUPS, KINDS};
 use crate::tables::{read16, read32};
 
-pub const LENGTH: usize = 12_304;
+/// What a book is laid out by.
+pub struct Form {
+    pub mark: [u8; 3],
+    pub length: usize,
+    first_kind: usize,
+    kinds: usize,
+}
+
+pub static DAYS: Form = Form { mark: *b"AXB", length: 12_304, first_kind: 1, kinds: KINDS };
+pub static POSITIONS: Form = Form { mark: *b"AXQ", length: 4_112, first_kind: 5, kinds: 1 };
+
 const TOTALS: usize = 16;
 
 pub fn rulebook(book: &[u8]) -> u8 {
@@ -14,19 +25,6 @@ pub fn last_date(book: &[u8]) -> u32 {
     read32(book, 6)
 }
 
-fn place(group: usize, kind: usize, family: usize) -> usize {
-    TOTALS + 2 * (((group - 1) * KINDS + (kind - 1)) * FAMILIES + family)
-}
-
-pub fn total(book: &[u8], group: usize, kind: usize, family: usize) -> u16 {
-    read16(book, place(group, kind, family))
-}
-
-pub fn set_total(book: &mut [u8], group: usize, kind: usize, family: usize, total: u16) {
-    let at = place(group, kind, family);
-    book[at..at + 2].copy_from_slice(&total.to_le_bytes());
-}
-
 pub fn set_last_date(book: &mut [u8], date: u32) {
     book[6..10].copy_from_slice(&date.to_le_bytes());
 }
@@ -35,14 +33,52 @@ pub fn clear_totals(book: &mut [u8]) {
     book[TOTALS..].fill(0);
 }
 
-pub fn is_sound(book: &[u8]) -> bool {
-    book.len() == LENGTH
-        && book[..3] == *b"AXB"
-        && (rulebook(book) == 1 || rulebook(book) == 2)
-        && read16(book, 4) == 1
-        && (last_date(book) == 0 || dates::is_day(last_date(book)))
-        && book[10..TOTALS].iter().all(|&byte| byte == 0)
-        && totals_are_sound(book)
+impl Form {
+    pub fn kinds(&self) -> std::ops::Range<usize> {
+        self.first_kind..self.first_kind + self.kinds
+    }
+
+    fn place(&self, group: usize, kind: usize, family: usize) -> usize {
+        TOTALS + 2 * (((group - 1) * self.kinds + (kind - self.first_kind)) * FAMILIES + family)
+    }
+
+    pub fn total(&self, book: &[u8], group: usize, kind: usize, family: usize) -> u16 {
+        read16(book, self.place(group, kind, family))
+    }
+
+    pub fn set_total(&self, book: &mut [u8], group: usize, kind: usize, family: usize, total: u16) {
+        let at = self.place(group, kind, family);
+        book[at..at + 2].copy_from_slice(&total.to_le_bytes());
+    }
+
+    pub fn is_sound(&self, book: &[u8]) -> bool {
+        book.len() == self.length
+            && book[..3] == self.mark
+            && (rulebook(book) == 1 || rulebook(book) == 2)
+            && read16(book, 4) == 1
+            && (last_date(book) == 0 || dates::is_day(last_date(book)))
+            && book[10..TOTALS].iter().all(|&byte| byte == 0)
+            && totals_are_sound(book)
+    }
+
+    /// A fresh book over a buffer of a book's length.
+    pub fn make_fresh(&self, book: &mut [u8], rulebook: u8) {
+        book.fill(0);
+        book[..3].copy_from_slice(&self.mark);
+        book[3] = rulebook;
+        book[4] = 1;
+    }
+
+    pub fn fresh(&self, rulebook: u8) -> Vec<u8> {
+        let mut book = vec![0; self.length];
+        self.make_fresh(&mut book, rulebook);
+        book
+    }
+
+    /// Every ladder's group and kind, in the findings' order.
+    pub fn groups_and_kinds(&self) -> impl Iterator<Item = (usize, usize)> + '_ {
+        (1..=GROUPS).flat_map(|group| self.kinds().map(move |kind| (group, kind)))
+    }
 }
 
 fn totals_are_sound(book: &[u8]) -> bool {
@@ -53,17 +89,4 @@ fn totals_are_sound(book: &[u8]) -> bool {
         let family = i % FAMILIES;
         total as u32 <= highest && !(only_two_families && family >= 2 && total != 0)
     })
-}
-
-/// A fresh book over a buffer of a book's length.
-pub fn make_fresh(book: &mut [u8], rulebook: u8) {
-    book.fill(0);
-    book[..3].copy_from_slice(b"AXB");
-    book[3] = rulebook;
-    book[4] = 1;
-}
-
-/// Every ladder there is, in the findings' order.
-pub fn groups_and_kinds() -> impl Iterator<Item = (usize, usize)> {
-    (1..=GROUPS).flat_map(|group| (1..=KINDS).map(move |kind| (group, kind)))
 }

@@ -68,25 +68,35 @@ pub fn end_record(version: u16, number: u32) -> Vec<u8> {
     bytes
 }
 
+/// A header of either log; the three numbers are contracts, accounts and what stands in bytes 14..15.
+pub fn header(mark: &[u8; 3], rulebook: u8, version: u16, date: u32, numbers: [usize; 3]) -> Vec<u8> {
+    let mut bytes = mark.to_vec();
+    bytes.push(rulebook);
+    bytes.extend(version.to_le_bytes());
+    bytes.extend(date.to_le_bytes());
+    bytes.extend(numbers.iter().flat_map(|&n| (n as u16).to_le_bytes()));
+    bytes
+}
+
+impl Account {
+    pub fn bytes(&self) -> Vec<u8> {
+        let mut bytes = self.number.to_le_bytes().to_vec();
+        bytes.extend([self.group, self.kind, 0, 0]);
+        bytes
+    }
+}
+
 impl Day {
     /// The header with the tables.
     pub fn tables(&self) -> Vec<u8> {
-        let mut bytes = b"AXD".to_vec();
-        bytes.push(self.rulebook);
-        bytes.extend(self.version.to_le_bytes());
-        bytes.extend(self.date.to_le_bytes());
-        bytes.extend((self.contracts.len() as u16).to_le_bytes());
-        bytes.extend((self.accounts.len() as u16).to_le_bytes());
-        bytes.extend([0, 0]);
+        let numbers = [self.contracts.len(), self.accounts.len(), 0];
+        let mut bytes = header(b"AXD", self.rulebook, self.version, self.date, numbers);
         for contract in &self.contracts {
             bytes.extend(contract.id.to_le_bytes());
             bytes.extend([contract.contract_type, contract.product]);
             bytes.extend(contract.largest.to_le_bytes());
         }
-        for account in &self.accounts {
-            bytes.extend(account.number.to_le_bytes());
-            bytes.extend([account.group, account.kind, 0, 0]);
-        }
+        bytes.extend(self.accounts.iter().flat_map(Account::bytes));
         bytes
     }
 
@@ -121,21 +131,32 @@ pub struct Total {
 }
 
 impl Total {
+    /// Kind 5 has a book of its own.
     pub fn place(&self) -> usize {
-        16 + ((self.group - 1) * 48 + (self.kind - 1) * 16 + self.family) * 2
+        let ladder = if self.kind == 5 { (self.group - 1) * 16 } else { (self.group - 1) * 48 + (self.kind - 1) * 16 };
+        16 + (ladder + self.family) * 2
     }
 }
 
 pub fn book_head(rulebook: u8, last_date: u32) -> Vec<u8> {
-    let mut bytes = vec![b'A', b'X', b'B', rulebook, 1, 0];
+    head_of(b"AXB", rulebook, last_date)
+}
+
+pub fn head_of(mark: &[u8; 3], rulebook: u8, last_date: u32) -> Vec<u8> {
+    let mut bytes = mark.to_vec();
+    bytes.extend([rulebook, 1, 0]);
     bytes.extend(last_date.to_le_bytes());
     bytes.extend([0; 6]);
     bytes
 }
 
 pub fn book(rulebook: u8, last_date: u32, totals: &[Total]) -> Vec<u8> {
-    let mut bytes = book_head(rulebook, last_date);
-    bytes.resize(12_304, 0);
+    with_totals(book_head(rulebook, last_date), 12_304, totals)
+}
+
+pub fn with_totals(head: Vec<u8>, length: usize, totals: &[Total]) -> Vec<u8> {
+    let mut bytes = head;
+    bytes.resize(length, 0);
     for total in totals {
         bytes[total.place()..total.place() + 2].copy_from_slice(&total.total.to_le_bytes());
     }
@@ -147,7 +168,7 @@ pub fn book(rulebook: u8, last_date: u32, totals: &[Total]) -> Vec<u8> {
 pub struct Script(pub Vec<u8>);
 
 impl Script {
-    fn step(&mut self, letter: u8, numbers: &[u32], bytes: &[u8]) {
+    pub fn step(&mut self, letter: u8, numbers: &[u32], bytes: &[u8]) {
         self.0.push(letter);
         self.0.extend(numbers.iter().flat_map(|n| n.to_le_bytes()));
         self.0.extend(bytes);

@@ -1,6 +1,6 @@
 //! The six calls (document 01, "The calls and their refusals"), on plain data. A refusal changes nothing: each call
-//! makes all its tests first, in the document's order, and then writes.
-use crate::book;
+//! makes all its tests first, in the document's order, and then writes. Those on a book alone are of either book.
+use crate::book::{self, Form, DAYS};
 use crate::dates;
 use crate::refusal::Refusal;
 use crate::rules::{self, FAMILIES, GROUPS, KINDS, PLACES};
@@ -22,14 +22,14 @@ pub enum State {
     Open(Day),
 }
 
-pub fn fresh(rulebook: u64, book: &mut [u8]) -> Result<(), Refusal> {
+pub fn fresh(form: &Form, rulebook: u64, book: &mut [u8]) -> Result<(), Refusal> {
     if rulebook != 1 && rulebook != 2 {
         return Err(Refusal::Rulebook);
     }
-    if book.len() != book::LENGTH {
+    if book.len() != form.length {
         return Err(Refusal::Book);
     }
-    book::make_fresh(book, rulebook as u8);
+    form.make_fresh(book, rulebook as u8);
     Ok(())
 }
 
@@ -38,7 +38,7 @@ pub fn open(state: &mut State, tables: &[u8], book: &[u8], counts: &mut [u32]) -
         return Err(Refusal::DayState);
     }
     let header = tables::check(tables)?;
-    check_book(book, &header)?;
+    check_book(&DAYS, book, &header)?;
     if counts.len() < CELLS {
         return Err(Refusal::Counts);
     }
@@ -47,9 +47,9 @@ pub fn open(state: &mut State, tables: &[u8], book: &[u8], counts: &mut [u32]) -
     Ok(())
 }
 
-/// 17, 18, 9: at opening and again at the end.
-fn check_book(book: &[u8], header: &Header) -> Result<(), Refusal> {
-    if !book::is_sound(book) {
+/// 17, 18, 9: at opening and again at the end, and for a position log.
+pub fn check_book(form: &Form, book: &[u8], header: &Header) -> Result<(), Refusal> {
+    if !form.is_sound(book) {
         return Err(Refusal::Book);
     }
     if book::rulebook(book) != header.rulebook {
@@ -157,34 +157,49 @@ pub fn end(
     if number != day.taken {
         return Err(Refusal::EndNumber);
     }
-    check_book(book, &day.header)?;
+    check_book(&DAYS, book, &day.header)?;
     if counts[..CELLS].iter().any(|&count| count > day.taken) {
         return Err(Refusal::CellsChanged);
     }
     let found = judge(&tables, counts, book);
-    if findings.len() < found.len() * FINDING {
-        return Err(Refusal::Findings);
-    }
-    for (finding, room) in found.iter().zip(findings.chunks_exact_mut(FINDING)) {
-        room.copy_from_slice(&finding.bytes());
-    }
-    write_book(book, day.header.date, &found);
+    write_findings(&found, findings)?;
+    write_book(&DAYS, book, day.header.date, &found);
     *state = State::Closed;
     Ok(found.len())
+}
+
+/// From the buffer's start; 20 where they do not fit.
+pub fn write_findings(found: &[Finding], buffer: &mut [u8]) -> Result<(), Refusal> {
+    if buffer.len() < found.len() * FINDING {
+        return Err(Refusal::Findings);
+    }
+    for (finding, room) in found.iter().zip(buffer.chunks_exact_mut(FINDING)) {
+        room.copy_from_slice(&finding.bytes());
+    }
+    Ok(())
 }
 
 fn is_later_year(date: u32, book: &[u8]) -> bool {
     dates::year(date) > dates::year(book::last_date(book))
 }
 
-fn write_book(book: &mut [u8], date: u32, found: &[Finding]) {
+pub fn write_book(form: &Form, book: &mut [u8], date: u32, found: &[Finding]) {
     if is_later_year(date, book) {
         book::clear_totals(book);
     }
     for finding in found {
-        book::set_total(book, finding.group as usize, finding.kind as usize, finding.family as usize, finding.total);
+        let [group, kind, family] = [finding.group, finding.kind, finding.family].map(usize::from);
+        form.set_total(book, group, kind, family, finding.total);
     }
     book::set_last_date(book, date);
+}
+
+/// The total that an offence of the date brings its ladder to.
+pub fn next_total(form: &Form, book: &[u8], date: u32, (group, kind, family): (usize, usize, usize)) -> u16 {
+    if is_later_year(date, book) {
+        return 1;
+    }
+    form.total(book, group, kind, family) + 1
 }
 
 /// The day's offences, each with the total that it brings its ladder to.
@@ -192,14 +207,12 @@ fn judge(tables: &Tables, counts: &[u32], book: &[u8]) -> Vec<Finding> {
     let rulebook = tables.header.rulebook;
     let contracts: Vec<Contract> = tables.contracts().collect();
     let has_member = groups_with_member(tables);
-    let starts_again = is_later_year(tables.header.date, book);
     let mut found = Vec::new();
-    for (group, kind) in book::groups_and_kinds() {
+    for (group, kind) in DAYS.groups_and_kinds() {
         let lowest = lowest_reached(rulebook, &contracts, counts, group, kind);
         for (family, contract) in lowest.iter().enumerate() {
             let Some(contract) = *contract else { continue };
-            let before = if starts_again { 0 } else { book::total(book, group, kind, family) };
-            let total = before + 1;
+            let total = next_total(&DAYS, book, tables.header.date, (group, kind, family));
             let sanction = rules::sanction(rulebook, has_member[group], rules::rung(total));
             let (group, kind, family) = (group as u8, kind as u8, family as u8);
             found.push(Finding { group, kind, family, sanction, total, contract });
@@ -242,13 +255,14 @@ pub fn abandon(state: &mut State) -> Result<(), Refusal> {
 }
 
 /// The total and its rung.
-pub fn ask(book: &[u8], group: u64, kind: u64, family: u64) -> Result<(u16, u8), Refusal> {
-    if !book::is_sound(book) {
+pub fn ask(form: &Form, book: &[u8], [group, kind, family]: [u64; 3]) -> Result<(u16, u8), Refusal> {
+    if !form.is_sound(book) {
         return Err(Refusal::Book);
     }
-    if !(1..=128).contains(&group) || !(1..=3).contains(&kind) || family > 15 {
+    let kinds = form.kinds().start as u64..form.kinds().end as u64;
+    if !(1..=128).contains(&group) || !kinds.contains(&kind) || family > 15 {
         return Err(Refusal::Asked);
     }
-    let total = book::total(book, group as usize, kind as usize, family as usize);
+    let total = form.total(book, group as usize, kind as usize, family as usize);
     Ok((total, rules::rung(total)))
 }

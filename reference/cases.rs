@@ -1,4 +1,5 @@
-//! What a case is: a script for replay, or a book file and logs for the clerk, one after the other.
+//! What a case is: a script for replay, or a book file and logs for a desk's clerk, one after the other.
+use crate::desk::{self, Desk};
 
 /// How the log reaches the clerk.
 #[derive(Clone, Copy)]
@@ -20,7 +21,7 @@ pub enum BookFile {
 
 pub enum Input {
     Replay(Vec<u8>),
-    Clerk { book: BookFile, logs: Vec<(Vec<u8>, Feed)> },
+    Clerk { desk: &'static Desk, book: BookFile, logs: Logs },
 }
 
 pub struct Case {
@@ -35,18 +36,28 @@ pub fn replay(name: impl Into<String>, script: crate::build::Script) -> Case {
 }
 
 pub fn replay_expecting(name: impl Into<String>, script: crate::build::Script, numbers: Vec<u8>) -> Case {
-    Case { numbers: Some(numbers), ..replay(name, script) }
+    expecting(replay(name, script), numbers)
 }
 
-pub fn clerk(name: impl Into<String>, book: BookFile, logs: Vec<(Vec<u8>, Feed)>) -> Case {
-    Case { name: name.into(), input: Input::Clerk { book, logs }, numbers: None }
+/// Logs one after the other, and how each comes.
+pub type Logs = Vec<(Vec<u8>, Feed)>;
+
+pub fn clerk_at(desk: &'static Desk, name: impl Into<String>, book: BookFile, logs: Logs) -> Case {
+    Case { name: name.into(), input: Input::Clerk { desk, book, logs }, numbers: None }
 }
 
-pub fn clerk_expecting(
-    name: impl Into<String>,
-    book: BookFile,
-    logs: Vec<(Vec<u8>, Feed)>,
-    numbers: Vec<u8>,
-) -> Case {
-    Case { numbers: Some(numbers), ..clerk(name, book, logs) }
+pub fn clerk(name: impl Into<String>, book: BookFile, logs: Logs) -> Case {
+    clerk_at(&desk::DAYS, name, book, logs)
+}
+
+pub fn position_clerk(name: impl Into<String>, book: BookFile, logs: Logs) -> Case {
+    clerk_at(&desk::POSITIONS, name, book, logs)
+}
+
+pub fn expecting(case: Case, numbers: Vec<u8>) -> Case {
+    Case { numbers: Some(numbers), ..case }
+}
+
+pub fn clerk_expecting(name: impl Into<String>, book: BookFile, logs: Logs, numbers: Vec<u8>) -> Case {
+    expecting(clerk(name, book, logs), numbers)
 }

@@ -1,9 +1,12 @@
-//! The whole check: cases and joined years of a fixed and of a fresh seed, the large logs, and what is around a day.
+//! The whole check: cases and joined years of a fixed and of a fresh seed, the large logs, and what is around a day, at
+//! either desk.
+use crate::both_desks::both_desks;
 use crate::broker_edges::broker_edges;
 use crate::build::Day;
 use crate::cases::{Case, Input};
-use crate::clerk_edges::{clerk_edges, example_book, example_day, WORKED_EXAMPLE_TEXT};
+use crate::clerk_edges::{clerk_edges, example_day, WORKED_EXAMPLE_TEXT};
 use crate::compare::{compare_all, Bench, Difference};
+use crate::desk;
 use crate::edges::edges;
 use crate::ending::Ending;
 use crate::failing::failing;
@@ -11,7 +14,14 @@ use crate::generate::random_case;
 use crate::installed::installed;
 use crate::join_years::{check_years, Seen};
 use crate::large::large_cases;
-use crate::newbook::newbook;
+use crate::newbook::{newbook, wrong_words};
+use crate::position_clerk_edges::position_clerk_edges;
+use crate::position_edges::position_edges;
+use crate::position_examples::{self, LADDER};
+use crate::position_generate::random_position_case;
+use crate::position_joins::{check_position_years, PositionSeen};
+use crate::position_lines::position_lines;
+use crate::position_years::{some_position_year, PositionYear};
 use crate::races::races;
 use crate::random::Random;
 use crate::run::Programs;
@@ -19,17 +29,19 @@ use crate::script_edges::script_edges;
 use crate::sheet::sheet;
 use crate::sheet_edges::sheet_edges;
 use crate::signals::signals;
-use crate::stage::{Example, Stage};
-use crate::starting::starting;
+use crate::stage::Stage;
+use crate::starting::{starting, starting_a_clerk};
 use crate::system_faults::system_faults;
-use crate::unusable::unusable;
+use crate::unusable::{replay_streams, unusable};
 use crate::years::{some_year, Year};
 use std::fmt::Display;
 use std::path::Path;
 use std::process::ExitCode;
 
 const RANDOM_CASES: usize = 3_000;
+const RANDOM_POSITION_CASES: usize = 640;
 const YEARS: usize = 64;
+const POSITION_YEARS: usize = 24;
 const SHOWN: usize = 5;
 
 #[derive(Default)]
@@ -53,6 +65,11 @@ fn cases_of(seed: u64) -> Vec<Case> {
     all.extend(script_edges());
     all.extend(clerk_edges(&mut Random::of_case(seed, 2)));
     all.extend((0..RANDOM_CASES).map(|i| random_case(&mut Random::of_case(seed, 1_000 + i as u64), i)));
+    all.extend(position_edges(&mut Random::of_case(seed, 5)));
+    all.extend(position_lines());
+    all.extend(position_clerk_edges(&mut Random::of_case(seed, 6)));
+    let random_positions = |i| random_position_case(&mut Random::of_case(seed, 50_000 + i as u64), i);
+    all.extend((0..RANDOM_POSITION_CASES).map(random_positions));
     all
 }
 
@@ -73,7 +90,7 @@ fn run_seed(label: &str, seed: u64, programs: &Programs, folder: &Path, score: &
     }
     let replays = cases.iter().filter(|case| matches!(case.input, Input::Replay(_))).count();
     let (tally, differences) = compare_all(&Bench { programs, folder, label }, &cases);
-    println!("\n{label} seed {seed}: {} cases of replay, {} of the clerk", replays, cases.len() - replays);
+    println!("\n{label} seed {seed}: {} cases of replay, {} of the two clerks", replays, cases.len() - replays);
     let (reached, missed) = tally.print(label == "fixed");
     println!("{} cases differ", differences.len());
     show(&differences, folder, label);
@@ -102,12 +119,45 @@ fn run_joins(seed: u64, bench: &Bench, score: &mut Score) {
         ("a day of version 1", seen.days - seen.days_of_version_2),
         ("a day of version 2", seen.days_of_version_2),
     ];
-    for (what, times) in needed {
+    check_seen(&needed, score);
+}
+
+fn check_seen(needed: &[(&str, usize)], score: &mut Score) {
+    for &(what, times) in needed {
         if times == 0 {
             println!("NEVER SEEN: {what}");
         }
         score.add((times > 0) as usize, (times == 0) as usize);
     }
+}
+
+/// The same for positions.
+fn run_position_joins(seed: u64, bench: &Bench, score: &mut Score) {
+    let year = |i| some_position_year(&mut Random::of_case(seed, 200_000 + i as u64), i);
+    let years: Vec<PositionYear> = (0..POSITION_YEARS).map(year).collect();
+    let (seen, differences) = check_position_years(bench, &years);
+    println!("\n{} seed {seed}: two groups joined in {} years of positions", bench.label, years.len());
+    print_position_seen(&seen);
+    println!("{} years differ", differences.len());
+    show(&differences, bench.folder, bench.label);
+    score.add(years.len() - differences.len(), differences.len());
+    let needed = [
+        ("a restriction of either group", seen.with_restriction),
+        ("a joined total past 3", seen.past_third),
+        ("an offence gained by the join", seen.days_gained),
+        ("an offence gained by a group of one account", seen.gained_by_one),
+    ];
+    check_seen(&needed, score);
+}
+
+fn print_position_seen(seen: &PositionSeen) {
+    println!("{} years passed, of {} days", seen.years, seen.days);
+    println!("{} findings of the two groups, {} of the joined group", seen.findings, seen.joined_findings);
+    println!(
+        "{} years with restrictions of either, {} with a joined total past 3",
+        seen.with_restriction, seen.past_third
+    );
+    println!("{} days gained an offence by the join, {} by a group of one", seen.days_gained, seen.gained_by_one);
 }
 
 fn print_seen(seen: &Seen) {
@@ -127,15 +177,25 @@ fn print_seen(seen: &Seen) {
     }
 }
 
-/// The reference against document 01's own example, in either version.
-fn check_worked_example(score: &mut Score) {
-    for version in [1, 2] {
-        let text = Example::of(&example_book(), Day { version, ..example_day() }.log()).text;
-        let is_right = text == WORKED_EXAMPLE_TEXT;
-        if !is_right {
-            println!("the worked example in version {version} gives {text:?}");
+/// The reference against document 01's own example, in either version, and against a ladder of positions by document
+/// 02, day after day.
+fn check_worked_examples(score: &mut Score) {
+    let mut is_right = |what: String, text: &str, wanted: &str| {
+        if text != wanted {
+            println!("{what} gives {text:?}");
         }
-        score.add(is_right as usize, !is_right as usize);
+        score.add((text == wanted) as usize, (text != wanted) as usize);
+    };
+    for version in [1, 2] {
+        let log = Day { version, ..example_day() }.log();
+        let text = desk::DAYS.on(Some(&(desk::DAYS.example_book)()), &log).text;
+        is_right(format!("the worked example in version {version}"), &text, WORKED_EXAMPLE_TEXT);
+    }
+    let mut book = desk::POSITIONS.form.fresh(1);
+    for (date, wanted) in LADDER {
+        let outcome = desk::POSITIONS.on(Some(&book), &position_examples::example_log(date));
+        is_right(format!("the example of positions on {date}"), &outcome.text, wanted);
+        book = outcome.book.unwrap_or(book);
     }
 }
 
@@ -154,17 +214,26 @@ fn check_each(title: &str, results: Vec<(impl Display, impl Into<Ending>)>, scor
     }
 }
 
-/// What is around a day: the files, the streams, other clerks, how the programs are started, the system.
+/// What is around a day at a desk: the files, the streams, other clerks, how the clerk is started, the system.
 fn check_around(stage: &Stage, score: &mut Score) {
-    check_each("the write-back made to fail", failing(stage), score);
-    check_each("a fresh book by newbook", newbook(stage), score);
+    let mut check = |title: &str, results| check_each(&format!("{title}, {}", stage.desk.name), results, score);
+    check("the write-back made to fail", failing(stage));
+    check("a fresh book by newbook", newbook(stage));
+    check("books and streams that cannot be used", unusable(stage));
+    check("two clerks at once", races(stage));
+    check("bin/run", starting_a_clerk(stage));
+    check("signals to bin/run", signals(stage));
+    check("faults of the system", system_faults(stage));
+}
+
+/// What is of no desk, or of both.
+fn check_the_rest(stage: &Stage, score: &mut Score) {
+    check_each("newbook with other words", wrong_words(stage), score);
+    check_each("both desks in one folder", both_desks(stage), score);
     check_each("the exemptions as a sheet", sheet(stage), score);
-    check_each("books and streams that cannot be used", unusable(stage), score);
-    check_each("two clerks at once", races(stage), score);
+    check_each("streams that cannot be used", replay_streams(stage), score);
     check_each("bin/run", starting(stage), score);
-    check_each("signals to bin/run", signals(stage), score);
     check_each("installed", installed(stage), score);
-    check_each("faults of the system", system_faults(stage), score);
 }
 
 pub fn check(seeds: [&str; 2], root: &Path, before: &[&str]) -> ExitCode {
@@ -175,13 +244,19 @@ pub fn check(seeds: [&str; 2], root: &Path, before: &[&str]) -> ExitCode {
     let programs = Programs::of(root, before);
     let folder = &root.join("target/reference");
     let mut score = Score::default();
-    check_worked_example(&mut score);
+    check_worked_examples(&mut score);
     run_seed("fixed", fixed, &programs, folder, &mut score);
     run_seed("fresh", fresh, &programs, folder, &mut score);
     for (label, seed) in [("join-fixed", fixed), ("join-fresh", fresh)] {
         run_joins(seed, &Bench { programs: &programs, folder, label }, &mut score);
     }
-    check_around(&Stage { root, programs: &programs, folder }, &mut score);
+    for (label, seed) in [("position-join-fixed", fixed), ("position-join-fresh", fresh)] {
+        run_position_joins(seed, &Bench { programs: &programs, folder, label }, &mut score);
+    }
+    let stage_of = |desk| Stage { root, programs: &programs, folder, desk };
+    check_around(&stage_of(&desk::DAYS), &mut score);
+    check_around(&stage_of(&desk::POSITIONS), &mut score);
+    check_the_rest(&stage_of(&desk::DAYS), &mut score);
     println!("\nthe fresh seed again: reference/check {fresh}");
     println!("{} passed, {} failed", score.passed, score.failed);
     if score.failed == 0 {

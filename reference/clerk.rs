@@ -1,7 +1,10 @@
-//! The clerk's program (document 01): as a function from bytes, and as a program over the file and standard input.
-use crate::book;
+//! The clerk's program (document 01) and that of positions (document 02, K4): as functions from bytes, and as a program
+//! over the file and standard input.
 use crate::calls::{self, Finding, State, CELLS, FINDING};
+use crate::desk::Desk;
+use crate::positions;
 use crate::refusal::Refusal;
+use crate::rules::{FAMILIES, GROUPS};
 use crate::tables::{record_length, Header, HEADER};
 use std::fmt::Write as _;
 use std::fs::{self, File};
@@ -115,10 +118,10 @@ fn judge<R: Read>(book: &mut [u8], source: R) -> io::Result<Result<(Header, Vec<
     }
 }
 
-fn printed(header: &Header, findings: &[Finding]) -> String {
+fn printed(mark: &str, header: &Header, findings: &[Finding]) -> String {
     let mut text = String::new();
     let exchange = if header.rulebook == 1 { "DCE" } else { "CFX" };
-    writeln!(text, "AXD {} {exchange}", header.date).unwrap();
+    writeln!(text, "{mark} {} {exchange}", header.date).unwrap();
     for Finding { group, kind, family, sanction, total, contract } in findings {
         writeln!(text, "{group} {kind} {family} {total} {sanction} {contract}").unwrap();
     }
@@ -126,36 +129,59 @@ fn printed(header: &Header, findings: &[Finding]) -> String {
     text
 }
 
-/// The clerk over a log that is read as it comes. A book that can't be opened is one of no bytes.
-pub fn clerk<R: Read>(book: Option<&[u8]>, log: R) -> io::Result<Outcome> {
-    let mut copy = book.unwrap_or(&[]).to_vec();
-    Ok(match judge(&mut copy, log)? {
-        Ok((header, findings)) => Outcome { text: printed(&header, &findings), book: Some(copy), stop: None },
+/// What a log was found to be, over a book that is written to.
+type Judged = Result<(Header, Vec<Finding>), Stop>;
+
+fn outcome(mark: &str, book: Vec<u8>, judged: Judged) -> Outcome {
+    match judged {
+        Ok((header, findings)) => Outcome { text: printed(mark, &header, &findings), book: Some(book), stop: None },
         Err(stop) => Outcome { text: format!("refused {}\n", stop.number()), book: None, stop: Some(stop) },
-    })
+    }
+}
+
+/// The clerk over a log that is read as it comes. A book that can't be opened is one of no bytes.
+pub fn clerk(book: Option<&[u8]>, log: &mut dyn Read) -> io::Result<Outcome> {
+    let mut copy = book.unwrap_or(&[]).to_vec();
+    let judged = judge(&mut copy, log)?;
+    Ok(outcome("AXD", copy, judged))
+}
+
+/// The same for a position log, which is held whole: a byte more than the longest is enough to see that it is too long.
+pub fn position_clerk(book: Option<&[u8]>, log: &mut dyn Read) -> io::Result<Outcome> {
+    let mut bytes = Vec::new();
+    log.take(positions::LONGEST as u64 + 1).read_to_end(&mut bytes)?;
+    let mut copy = book.unwrap_or(&[]).to_vec();
+    let mut findings = vec![0; GROUPS * FAMILIES * FINDING];
+    let judged = match positions::judge(&bytes, &mut copy, &mut findings) {
+        Ok(n) => Ok((Header::read(&bytes), findings.chunks(FINDING).take(n).map(Finding::read).collect())),
+        Err(refusal) => Err(Stop::Call("judge", refusal)),
+    };
+    Ok(outcome("AXP", copy, judged))
 }
 
 /// The program: prints, then writes the book back beside the old one and renames it over.
-pub fn program() -> io::Result<()> {
-    let outcome = clerk(read_book().as_deref(), io::stdin().lock())?;
+pub fn program(desk: &Desk) -> io::Result<()> {
+    let outcome = (desk.judge)(read_book(desk).as_deref(), &mut io::stdin().lock())?;
     io::stdout().write_all(outcome.text.as_bytes())?;
     io::stdout().flush()?;
     match outcome.book {
-        Some(book) => write_back(&book).inspect_err(|_| drop(fs::remove_file("book.axb.new"))),
+        Some(book) => write_back(desk, &book),
         None => Ok(()),
     }
 }
 
 /// One byte more than a book's is enough to see that a file is too long.
-fn read_book() -> Option<Vec<u8>> {
-    let mut bytes = Vec::with_capacity(book::LENGTH + 1);
-    File::open("book.axb").ok()?.take(book::LENGTH as u64 + 1).read_to_end(&mut bytes).ok()?;
+fn read_book(desk: &Desk) -> Option<Vec<u8>> {
+    let mut bytes = Vec::with_capacity(desk.form.length + 1);
+    File::open(desk.file).ok()?.take(desk.form.length as u64 + 1).read_to_end(&mut bytes).ok()?;
     Some(bytes)
 }
 
-fn write_back(book: &[u8]) -> io::Result<()> {
-    let mut file = File::create("book.axb.new")?;
-    file.write_all(book)?;
-    file.sync_all()?;
-    fs::rename("book.axb.new", "book.axb")
+fn write_back(desk: &Desk, book: &[u8]) -> io::Result<()> {
+    let new = format!("{}.new", desk.file);
+    let written = File::create(&new).and_then(|mut file| {
+        file.write_all(book)?;
+        file.sync_all()
+    });
+    written.and_then(|()| fs::rename(&new, desk.file)).inspect_err(|_| drop(fs::remove_file(&new)))
 }

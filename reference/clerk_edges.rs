@@ -51,18 +51,21 @@ pub fn example_day() -> Day {
     }
 }
 
-pub const WORKED_EXAMPLE_TEXT: &str = "AXD 20240305 DCE\n3 1 0 2 2 101\nfindings 1\n";
-
-fn book_bytes(scene: &Scene) -> Vec<u8> {
-    let mut bytes = scene.book_head.clone();
-    bytes.resize(scene.book_length as usize, 0);
-    for &(at, total) in &scene.totals {
-        if let Some(room) = bytes.get_mut(at as usize..at as usize + 2) {
-            room.copy_from_slice(&total.to_le_bytes());
-        }
-    }
-    bytes
+pub fn example_log(date: u32) -> Vec<u8> {
+    Day { date, ..example_day() }.log()
 }
+
+/// With half of these, a log fills any pipe, 1 MiB where memory comes in pages of 64 KiB.
+const MANY: u32 = 120_000;
+
+/// The worked example with many records.
+pub fn long_log() -> Vec<u8> {
+    let day = example_day();
+    let records = vec![(day.records[0].0.clone(), MANY)];
+    Day { records, ..day }.log()
+}
+
+pub const WORKED_EXAMPLE_TEXT: &str = "AXD 20240305 DCE\n3 1 0 2 2 101\nfindings 1\n";
 
 fn log_bytes(scene: &Scene, records: u32) -> Vec<u8> {
     let mut bytes = scene.tables.clone();
@@ -83,7 +86,7 @@ fn opening_faults(random: &mut Random) -> Vec<Case> {
         let mut scene = scene(random, "open");
         (fault.make)(&mut scene);
         let log = (log_bytes(&scene, 5), some_feed(random));
-        all.push(clerk(format!("opening, {:?}", fault.refusal), BookFile::Bytes(book_bytes(&scene)), vec![log]));
+        all.push(clerk(format!("opening, {:?}", fault.refusal), BookFile::Bytes(scene.book.bytes()), vec![log]));
     }
     for _ in 0..200 {
         let (a, b) = (random.below(faults.len()), random.below(faults.len()));
@@ -92,7 +95,7 @@ fn opening_faults(random: &mut Random) -> Vec<Case> {
         (faults[a.min(b)].make)(&mut scene);
         let name = format!("opening, {:?} and {:?}", faults[a.min(b)].refusal, faults[a.max(b)].refusal);
         let log = (log_bytes(&scene, 5), some_feed(random));
-        all.push(clerk(name, BookFile::Bytes(book_bytes(&scene)), vec![log]));
+        all.push(clerk(name, BookFile::Bytes(scene.book.bytes()), vec![log]));
     }
     all
 }
@@ -103,7 +106,7 @@ fn started(random: &mut Random, version: u16) -> (Scene, Vec<u8>, BookFile) {
     let scene = scene_of(random, "take", rulebook, version);
     let mut log = scene.tables.clone();
     log.extend(scene.record.repeat(5));
-    let book = BookFile::Bytes(book_bytes(&scene));
+    let book = BookFile::Bytes(scene.book.bytes());
     (scene, log, book)
 }
 
@@ -136,7 +139,7 @@ fn cut_logs(random: &mut Random) -> Vec<Case> {
         let whole = log_bytes(&base, 2);
         all.extend((0..=whole.len()).map(|length| {
             let log = (whole[..length].to_vec(), some_feed(random));
-            clerk(format!("version {version} cut to {length}"), BookFile::Bytes(book_bytes(&base)), vec![log])
+            clerk(format!("version {version} cut to {length}"), BookFile::Bytes(base.book.bytes()), vec![log])
         }));
     }
     all

@@ -1,13 +1,14 @@
 //! Runs cases on the reference and on the programs, and compares.
 use crate::cases::{BookFile, Case, Feed, Input};
-use crate::clerk::{self, Stop};
+use crate::clerk::Stop;
+use crate::desk::Desk;
 use crate::parallel::in_parallel;
 use crate::replay;
 use crate::run::{command, run, Programs};
 use crate::tally::Tally;
 use std::fs;
 use std::io;
-use std::path::Path;
+use std::path::{Path, PathBuf};
 use std::sync::Mutex;
 
 pub struct Difference {
@@ -48,8 +49,8 @@ fn keep(bench: &Bench, i: usize, case: &Case, what: &str) {
         fs::write(folder.join("what"), format!("{}\n{what}\n", case.name))?;
         match &case.input {
             Input::Replay(script) => fs::write(folder.join("script"), script),
-            Input::Clerk { book, logs } => {
-                set_book(&folder, book)?;
+            Input::Clerk { desk, book, logs } => {
+                set_book(&folder.join(desk.file), book)?;
                 let write = |(k, (log, _)): (usize, &(Vec<u8>, Feed))| fs::write(folder.join(format!("log-{k}")), log);
                 logs.iter().enumerate().try_for_each(write)
             }
@@ -60,8 +61,7 @@ fn keep(bench: &Bench, i: usize, case: &Case, what: &str) {
     }
 }
 
-fn set_book(folder: &Path, book: &BookFile) -> io::Result<()> {
-    let path = folder.join("book.axb");
+fn set_book(path: &Path, book: &BookFile) -> io::Result<()> {
     match book {
         BookFile::Missing => Ok(()),
         BookFile::Folder => fs::create_dir(path),
@@ -72,14 +72,16 @@ fn set_book(folder: &Path, book: &BookFile) -> io::Result<()> {
 fn compare(programs: &Programs, scratch: &Path, case: &Case, tally: &mut Tally) -> Result<(), String> {
     match &case.input {
         Input::Replay(script) => compare_replay(programs, scratch, case, script, tally),
-        Input::Clerk { book, logs } => {
+        Input::Clerk { desk, book, logs } => {
             let _ = fs::remove_dir_all(scratch);
-            fs::create_dir_all(scratch).and_then(|()| set_book(scratch, book)).map_err(|e| e.to_string())?;
+            let set = fs::create_dir_all(scratch).and_then(|()| set_book(&scratch.join(desk.file), book));
+            set.map_err(|e| e.to_string())?;
             let start = match book {
                 BookFile::Bytes(bytes) => Some(bytes.clone()),
                 _ => None,
             };
-            compare_logs(programs, scratch, start, logs, tally).and_then(|given| meets_intent(case, &given))
+            let at = At { programs, desk, scratch };
+            at.compare_logs(start, logs, tally).and_then(|given| meets_intent(case, &given))
         }
     }
 }
@@ -97,7 +99,7 @@ fn compare_replay(
     let second_word = |line: &str| line.split(' ').nth(1).unwrap_or("").to_string();
     meets_intent(case, &expected.text.lines().map(second_word).collect::<Vec<_>>())?;
     fs::create_dir_all(scratch).map_err(|e| e.to_string())?;
-    let words = programs.words(&programs.replay);
+    let words = programs.words("replay");
     let output = run(command(&words, scratch), scratch, script, Feed::Pipe).map_err(|e| e.to_string())?;
     if output.stdout == expected.text.as_bytes() && output.status.success() {
         return Ok(());
@@ -133,69 +135,86 @@ fn first_difference(expected: &replay::Outcome, given: &[u8]) -> String {
     "the same lines, other bytes or another exit status".to_string()
 }
 
-/// The reference's number for each log.
-fn compare_logs(
-    programs: &Programs,
-    scratch: &Path,
-    mut book: Option<Vec<u8>>,
-    logs: &[(Vec<u8>, Feed)],
-    tally: &mut Tally,
-) -> Result<Vec<String>, String> {
-    let mut numbers = Vec::new();
-    for (k, (log, feed)) in logs.iter().enumerate() {
-        let expected = clerk::clerk(book.as_deref(), &log[..]).map_err(|e| e.to_string())?;
-        numbers.push(expected.stop.map_or(0, Stop::number).to_string());
-        count_stop(tally, expected.stop, log);
-        compare_log(programs, scratch, &expected.text, log, *feed).map_err(|what| format!("log {k}: {what}"))?;
-        book = expected.book.or(book);
-        same_file(&scratch.join("book.axb"), book.as_deref()).map_err(|what| format!("log {k}: {what}"))?;
-        nothing_else(scratch).map_err(|what| format!("log {k}: {what}"))?;
-    }
-    tally.close_case();
-    Ok(numbers)
+/// A desk's program in a folder with its book.
+pub struct At<'a> {
+    pub programs: &'a Programs,
+    pub desk: &'static Desk,
+    pub scratch: &'a Path,
 }
 
-/// Nothing is left beside the book.
-pub fn nothing_else(scratch: &Path) -> Result<(), String> {
+impl At<'_> {
+    /// The reference's number for each log.
+    fn compare_logs(
+        &self,
+        mut book: Option<Vec<u8>>,
+        logs: &[(Vec<u8>, Feed)],
+        tally: &mut Tally,
+    ) -> Result<Vec<String>, String> {
+        let mut numbers = Vec::new();
+        for (k, (log, feed)) in logs.iter().enumerate() {
+            let expected = self.desk.on(book.as_deref(), log);
+            numbers.push(expected.stop.map_or(0, Stop::number).to_string());
+            self.count_stop(tally, expected.stop, log);
+            book = expected.book.or(book);
+            let result = self
+                .compare_log(&expected.text, log, *feed)
+                .and_then(|()| same_file(&self.book(), book.as_deref()))
+                .and_then(|()| nothing_else(self.scratch, self.desk));
+            result.map_err(|what| format!("log {k}: {what}"))?;
+        }
+        tally.close_case();
+        Ok(numbers)
+    }
+
+    pub fn book(&self) -> PathBuf {
+        self.scratch.join(self.desk.file)
+    }
+
+    /// A position log has one version.
+    fn count_stop(&self, tally: &mut Tally, stop: Option<Stop>, log: &[u8]) {
+        let (call, number, note) = match stop {
+            None if self.desk.mark == "AXP" => ("accepted", 0, ""),
+            None => ("accepted", 0, if log[4] == 1 { " (version 1)" } else { " (version 2)" }),
+            Some(Stop::Call(call, refusal)) => (call, refusal.number(), refusal.note()),
+            Some(Stop::CutRecord) => ("log", 1, " (cut-off record)"),
+            Some(Stop::NoEnd) => ("log", 1, " (no end record)"),
+            Some(Stop::AfterEnd) => ("log", 1, " (bytes after the end)"),
+        };
+        tally.clerk(self.desk, call, number, note);
+    }
+
+    fn compare_log(&self, text: &str, log: &[u8], feed: Feed) -> Result<(), String> {
+        let given = self.run(log, feed)?;
+        if given == text {
+            return Ok(());
+        }
+        Err(format!("reference {:?}, program {:?}", shortened(text), shortened(&given)))
+    }
+
+    /// What the program prints of a log over the book in the folder, where it does not fail. A book that is there and
+    /// cannot be read, as a folder of that name, is no failure, and then standard error says why.
+    pub fn run(&self, log: &[u8], feed: Feed) -> Result<String, String> {
+        let words = self.programs.words(self.desk.name);
+        let output = run(command(&words, self.scratch), self.scratch, log, feed).map_err(|e| e.to_string())?;
+        let given = String::from_utf8_lossy(&output.stdout).into_owned();
+        let is_unreadable = self.book().is_dir();
+        if !output.status.success() || output.stderr.is_empty() == is_unreadable {
+            let error = String::from_utf8_lossy(&output.stderr).into_owned();
+            return Err(format!("{}, printed {:?}, standard error {error:?}", output.status, shortened(&given)));
+        }
+        Ok(given)
+    }
+}
+
+/// Nothing is left beside the desk's book.
+pub fn nothing_else(scratch: &Path, desk: &Desk) -> Result<(), String> {
     for entry in fs::read_dir(scratch).map_err(|e| e.to_string())? {
         let name = entry.map_err(|e| e.to_string())?.file_name();
-        if name != "book.axb" {
+        if name != desk.file {
             return Err(format!("{name:?} is left"));
         }
     }
     Ok(())
-}
-
-fn count_stop(tally: &mut Tally, stop: Option<Stop>, log: &[u8]) {
-    match stop {
-        None => tally.clerk("accepted", 0, &format!(" (version {})", log[4])),
-        Some(Stop::Call(call, refusal)) => tally.clerk(call, refusal.number(), refusal.note()),
-        Some(Stop::CutRecord) => tally.clerk("log", 1, " (cut-off record)"),
-        Some(Stop::NoEnd) => tally.clerk("log", 1, " (no end record)"),
-        Some(Stop::AfterEnd) => tally.clerk("log", 1, " (bytes after the end)"),
-    }
-}
-
-fn compare_log(programs: &Programs, scratch: &Path, text: &str, log: &[u8], feed: Feed) -> Result<(), String> {
-    let given = run_clerk(programs, scratch, log, feed)?;
-    if given == text {
-        return Ok(());
-    }
-    Err(format!("reference {:?}, program {:?}", shortened(text), shortened(&given)))
-}
-
-/// What the clerk prints of a log over the book in the folder, where it does not fail. A book that is there and cannot
-/// be read, as a folder of that name, is no failure, and then standard error says why.
-pub fn run_clerk(programs: &Programs, scratch: &Path, log: &[u8], feed: Feed) -> Result<String, String> {
-    let words = programs.words(&programs.clerk);
-    let output = run(command(&words, scratch), scratch, log, feed).map_err(|e| e.to_string())?;
-    let given = String::from_utf8_lossy(&output.stdout).into_owned();
-    let is_unreadable = scratch.join("book.axb").is_dir();
-    if !output.status.success() || output.stderr.is_empty() == is_unreadable {
-        let error = String::from_utf8_lossy(&output.stderr).into_owned();
-        return Err(format!("{}, printed {:?}, standard error {error:?}", output.status, shortened(&given)));
-    }
-    Ok(given)
 }
 
 pub fn shortened(text: &str) -> String {

@@ -34,7 +34,7 @@ pub fn some_later(random: &mut Random, date: u32) -> u32 {
     later(date, random.within(1, 4)).unwrap_or(20991231)
 }
 
-fn contracts(random: &mut Random, rulebook: u8, n: usize) -> Vec<Contract> {
+pub fn some_contracts(random: &mut Random, rulebook: u8, n: usize) -> Vec<Contract> {
     let mut id = if random.one_in(3) { 65_535 - 32 } else { random.within(0, 500) as u16 };
     let products = random.pick(&[1, 2, 16]);
     (0..n)
@@ -47,7 +47,7 @@ fn contracts(random: &mut Random, rulebook: u8, n: usize) -> Vec<Contract> {
         .collect()
 }
 
-fn accounts(random: &mut Random, n: usize) -> Vec<Account> {
+pub fn some_accounts(random: &mut Random, n: usize) -> Vec<Account> {
     let mut number = if random.one_in(4) { u32::MAX - 512 } else { random.within(0, 70_000) as u32 };
     let members = random.pick(&[1, 2, 4, 1_000]);
     (0..n)
@@ -126,7 +126,7 @@ pub fn some_day(random: &mut Random, rulebook: u8, date: u32, most: u32) -> Day 
     } else {
         (random.within(1, 5), random.within(1, 8))
     };
-    let (contracts, accounts) = (contracts(random, rulebook, c), accounts(random, a));
+    let (contracts, accounts) = (some_contracts(random, rulebook, c), some_accounts(random, a));
     let mut day = Day { rulebook, version: some_version(random), date, contracts, accounts, records: Vec::new() };
     for _ in 0..random.within(0, 7) {
         let record = some_record(random, &day);

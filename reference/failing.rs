@@ -24,59 +24,62 @@ pub fn failing(stage: &Stage) -> Endings {
         ("a second try after a failure", second_try),
         ("a book's mode and owner", kept_mode),
     ];
-    let example = Example::worked();
+    let example = stage.example();
     let mut all: Endings = tests.map(|(name, test)| (name.to_string(), test(stage, &example).into())).into();
     all.push(("a full small file system".to_string(), full_file_system(stage, &example)));
     all
 }
 
 /// What must hold after every failure.
-fn failed_whole(output: &Output, folder: &Path, example: &Example) -> Result<(), String> {
+fn failed_whole(stage: &Stage, output: &Output, folder: &Path, example: &Example) -> Result<(), String> {
     example.is_kept(folder)?;
-    says(output, &["clerk: "])?;
+    says(output, &[&stage.desk.says("")])?;
     has_status(output, 1)
 }
 
 /// The clerk as another user is started without `bin/run`, and its exit status says nothing.
 fn no_permission(stage: &Stage, example: &Example) -> Result<(), String> {
-    let held = held_by_permissions(stage, "clerk", &stage.programs.clerk)?;
+    let held = held_by_permissions(stage, stage.desk.name)?;
     let folder = example.folder(&held.parent, "no-permission")?;
     let output = held.run_unwritable(&folder, &[], &example.log)?;
-    let result = example.is_kept(&folder).and(says(&output, &[LEFT])).and(prints(&output, ""));
+    let result = example.is_kept(&folder).and(says(&output, &[&left(stage)])).and(prints(&output, ""));
     held.clear(stage)?;
     result.and(if held.as_nobody { Ok(()) } else { has_status(&output, 1) })
 }
 
-const LEFT: &str = "clerk: book.axb is left as it was, ";
+fn left(stage: &Stage) -> String {
+    stage.desk.says_of_book("is left as it was, ")
+}
 
 /// A limit on file sizes stands for a disk that fills.
 fn full_disk(stage: &Stage, example: &Example) -> Result<(), String> {
     let folder = example.folder(stage.folder, "full-disk")?;
-    run_without_room(through_shell(stage, &folder, FULL_DISK), &folder, example)
+    run_without_room(stage, through_shell(stage, &folder, FULL_DISK), &folder, example)
 }
 
 /// Where there is no room for the new book, nothing is printed.
-fn run_without_room(command: Command, folder: &Path, example: &Example) -> Result<(), String> {
+fn run_without_room(stage: &Stage, command: Command, folder: &Path, example: &Example) -> Result<(), String> {
     let output = run(command, folder, &example.log, Feed::Pipe).map_err(text)?;
-    failed_whole(&output, folder, example)?;
-    says(&output, &[LEFT])?;
+    failed_whole(stage, &output, folder, example)?;
+    says(&output, &[&left(stage)])?;
     prints(&output, "")
 }
 
 fn through_shell(stage: &Stage, folder: &Path, line: &str) -> Command {
-    command(&shell_words(line, stage.programs.through_run("clerk")), folder)
+    command(&shell_words(line, stage.programs.through_run(stage.desk.name)), folder)
 }
 
-/// A limit of 8 blocks on files: less than a book.
-pub const FULL_DISK: &str = "ulimit -f 8; exec \"$@\"";
+/// A limit of 4 blocks on files: less than either book.
+pub const FULL_DISK: &str = "ulimit -f 4; exec \"$@\"";
 
 /// A small file system, which goes whatever comes.
 struct Small(PathBuf);
 
 impl Small {
     /// So small that a book fills it.
-    fn mount(folder: PathBuf) -> Option<Small> {
-        let words = ["-t", "tmpfs", "-o", "size=16k", "tmpfs"];
+    fn mount(folder: PathBuf, book: usize) -> Option<Small> {
+        let size = format!("size={}k", 4 * book.div_ceil(4_096));
+        let words = ["-t", "tmpfs", "-o", &size, "tmpfs"];
         let mounted = Command::new("mount").args(words).arg(&folder).stderr(Stdio::null()).status();
         mounted.is_ok_and(|status| status.success()).then(|| Small(folder))
     }
@@ -95,11 +98,11 @@ fn full_file_system(stage: &Stage, example: &Example) -> Ending {
     let lacking = (!is_root()).then(|| "only root can mount one".to_string());
     unless(lacking, || {
         let folder = empty_folder(stage.folder, "small")?;
-        let Some(small) = Small::mount(folder) else {
+        let Some(small) = Small::mount(folder, example.book.len()) else {
             return Ok(Ending::LeftOut("none can be mounted".to_string()));
         };
-        fs::write(small.0.join("book.axb"), &example.book).map_err(text)?;
-        run_without_room(stage.clerk(&small.0), &small.0, example).map(|()| Ending::PASSED)
+        fs::write(small.0.join(stage.desk.file), &example.book).map_err(text)?;
+        run_without_room(stage, stage.clerk(&small.0), &small.0, example).map(|()| Ending::PASSED)
     })
 }
 
@@ -111,14 +114,14 @@ fn full_output(stage: &Stage, example: &Example, is_good: bool) -> Result<(), St
     command.stdout(full).stderr(Stdio::piped());
     let log = if is_good { &example.log[..] } else { &example.log[..30] };
     let output = run_as_set(&mut command, &folder, log, Feed::Pipe).map_err(text)?;
-    failed_whole(&output, &folder, example)
+    failed_whole(stage, &output, &folder, example)
 }
 
 fn closed_output(stage: &Stage, example: &Example) -> Result<(), String> {
     let folder = example.folder(stage.folder, "closed-output")?;
     let command = through_shell(stage, &folder, "exec \"$@\" >&-");
     let output = run(command, &folder, &example.log, Feed::Pipe).map_err(text)?;
-    failed_whole(&output, &folder, example)
+    failed_whole(stage, &output, &folder, example)
 }
 
 fn unread_output(stage: &Stage, example: &Example) -> Result<(), String> {
@@ -126,13 +129,13 @@ fn unread_output(stage: &Stage, example: &Example) -> Result<(), String> {
     let (first, rest) = example.halves();
     let mut clerk = Waiting::begin(stage.clerk(&folder), first).map_err(text)?;
     clerk.stop_reading();
-    failed_whole(&clerk.go_on(rest).map_err(text)?, &folder, example)
+    failed_whole(stage, &clerk.go_on(rest).map_err(text)?, &folder, example)
 }
 
 /// A stop between writing and renaming leaves a file beside the book, which the next run takes away.
 fn left_over(stage: &Stage, example: &Example) -> Result<(), String> {
     let folder = example.folder(stage.folder, "left-over")?;
-    fs::write(folder.join("book.axb.new.abcdef"), vec![7; 30_000]).map_err(text)?;
+    fs::write(folder.join(format!("{}.new.abcdef", stage.desk.file)), vec![7; 30_000]).map_err(text)?;
     run_well(stage, &folder, example)
 }
 
@@ -145,7 +148,7 @@ fn second_try(stage: &Stage, example: &Example) -> Result<(), String> {
 /// The new book is for the same readers as the old one. Only root can give it to another owner.
 fn kept_mode(stage: &Stage, example: &Example) -> Result<(), String> {
     let folder = example.folder(stage.folder, "kept-mode")?;
-    let book = folder.join("book.axb");
+    let book = folder.join(stage.desk.file);
     let facts = || fs::metadata(&book).map(|file| (file.mode(), file.uid(), file.gid())).map_err(text);
     fs::set_permissions(&book, fs::Permissions::from_mode(0o640)).map_err(text)?;
     if is_root() {

@@ -1,4 +1,6 @@
 //! Faults, each with the refusal that it brings where it stands alone, and how it is put into a scene.
+use crate::book::DAYS;
+use crate::book_scene::{book_faults, wrong_lengths, BookChange};
 use crate::refusal::Refusal;
 use crate::scene::{scene_cell, Change, Scene};
 
@@ -31,7 +33,15 @@ pub const BAD_DATES: [u32; 16] = [
 ];
 
 /// With a low byte of 1 and of 2, and with 2 in the high byte alone, among them.
-const BAD_VERSIONS: [u16; 7] = [0, 3, 257, 258, 512, 513, 65_535];
+pub const BAD_VERSIONS: [u16; 7] = [0, 3, 257, 258, 512, 513, 65_535];
+
+/// Ids of a scene's contracts 101, 102 and 65,000 that do not rise, and numbers of its accounts 11, 12, 300 and 70,000.
+pub const BAD_IDS: [(usize, u16); 9] =
+    [(0, 0), (0, 102), (0, 65_000), (1, 0), (1, 101), (1, 65_000), (2, 102), (2, 101), (2, 1)];
+pub const BAD_NUMBERS: [(usize, u32); 9] =
+    [(0, 0), (0, 12), (1, 0), (1, 11), (1, 300), (1, 301), (2, 12), (3, 300), (3, 1)];
+/// Group, kind and the two bytes that are zero.
+pub const BAD_ACCOUNT_BYTES: [(usize, u8); 8] = [(4, 0), (4, 129), (4, 255), (5, 0), (5, 3), (5, 255), (6, 1), (7, 1)];
 
 /// Faults in the tables' header: 1 (under 16) to 6.
 fn header_faults() -> Vec<Fault> {
@@ -75,15 +85,15 @@ fn entry_faults() -> Vec<Fault> {
             all.push(fault(Refusal::Contract, move |s| s.put(s.contract_at(place) + 4, &largest.to_le_bytes())));
         }
     }
-    for (place, id) in [(0, 0u16), (0, 102), (0, 65_000), (1, 0), (1, 101), (1, 65_000), (2, 102), (2, 101), (2, 1)] {
+    for (place, id) in BAD_IDS {
         all.push(fault(Refusal::Contract, move |s| s.put(s.contract_at(place), &id.to_le_bytes())));
     }
     for place in [0, 1, 2, 3] {
-        for (at, byte) in [(4, 0), (4, 129), (4, 255), (5, 0), (5, 3), (5, 255), (6, 1), (7, 1)] {
+        for (at, byte) in BAD_ACCOUNT_BYTES {
             all.push(fault(Refusal::Account, move |s| s.put(s.account_at(place) + at, &[byte])));
         }
     }
-    for (place, number) in [(0, 0u32), (0, 12), (1, 0), (1, 11), (1, 300), (1, 301), (2, 12), (3, 300), (3, 1)] {
+    for (place, number) in BAD_NUMBERS {
         all.push(fault(Refusal::Account, move |s| s.put(s.account_at(place), &number.to_le_bytes())));
     }
     all
@@ -104,52 +114,19 @@ fn table_faults() -> Vec<Fault> {
     all
 }
 
-pub fn book_faults() -> Vec<Fault> {
-    let mut all = Vec::new();
-    for length in [0, 16, 12_303, 12_305, 20_000] {
-        all.push(fault(Refusal::Book, move |s| s.book_length = length));
-    }
-    for (at, byte) in [(0, b'a'), (1, 0), (2, b'D'), (3, 0), (3, 3), (4, 0), (4, 2), (5, 1)] {
-        all.push(fault(Refusal::Book, move |s| s.book_head[at] = byte));
-    }
-    for at in 10..16 {
-        all.push(fault(Refusal::Book, move |s| s.book_head[at] = 1));
-    }
-    for date in BAD_DATES {
-        all.push(fault(Refusal::Book, move |s| s.book_head[6..10].copy_from_slice(&date.to_le_bytes())));
-    }
-    for at in [16, 18, 5_000, 12_302 - 28] {
-        all.push(fault(Refusal::Book, move |s| s.totals.push((at, 367))));
-        all.push(fault(Refusal::Book, move |s| s.totals.push((at, 65_535))));
-    }
-    all.push(fault(Refusal::Book, dateless_total));
-    for family in 2..16 {
-        all.push(fault(Refusal::Book, move |s| family_of_no_use(s, family)));
-    }
-    all
-}
-
-fn dateless_total(s: &mut Scene) {
-    s.book_head[6..10].fill(0);
-    s.totals.push((16, 1));
-}
-
-/// Rulebook 1 has families 0 and 1 only; in rulebook 2 a total above the day number does as well.
-fn family_of_no_use(s: &mut Scene, family: u32) {
-    let total = if s.book_head[3] == 1 { 1 } else { 6 };
-    s.book_head[6..10].copy_from_slice(&20240105u32.to_le_bytes());
-    s.totals.push((16 + 2 * (16 * 17 + family), total));
+fn of_book(changes: Vec<BookChange>) -> Vec<Fault> {
+    changes.into_iter().map(|change| fault(Refusal::Book, move |s| change(&mut s.book))).collect()
 }
 
 /// 18 and 9, of a book that is sound.
 fn day_book_faults() -> Vec<Fault> {
-    let mut all = vec![fault(Refusal::OtherRulebook, |s| s.book_head[3] = 3 - s.book_head[3])];
+    let mut all = vec![fault(Refusal::OtherRulebook, |s| s.book.head[3] = 3 - s.book.head[3])];
     all.push(fault(Refusal::NotLater, |s| {
         let date = s.tables[6..10].to_vec();
-        s.book_head[6..10].copy_from_slice(&date);
-        s.totals.clear();
+        s.book.head[6..10].copy_from_slice(&date);
+        s.book.totals.clear();
     }));
-    all.push(fault(Refusal::NotLater, |s| s.book_head[6..10].copy_from_slice(&20991231u32.to_le_bytes())));
+    all.push(fault(Refusal::NotLater, |s| s.book.set_date(20991231)));
     all
 }
 
@@ -161,7 +138,7 @@ pub fn open_faults() -> Vec<Fault> {
     let some_head = [1, 1, 0, 0x31, 0xd8, 0x34, 1, 3, 0, 4, 0, 0, 0];
     let mut all = vec![fault(Refusal::DayState, move |s| s.day = Some((some_head.to_vec(), 7)))];
     all.extend(table_faults());
-    all.extend(book_faults());
+    all.extend(of_book(book_faults(&DAYS)));
     all.extend(day_book_faults());
     all.extend(counts_faults());
     all
@@ -330,7 +307,7 @@ pub fn end_faults() -> Vec<Fault> {
             s.set_record(4, &number.to_le_bytes());
         }));
     }
-    all.extend(book_faults());
+    all.extend(of_book(book_faults(&DAYS)));
     all.extend(day_book_faults());
     for cell in [0, 3, 31, 32, 6_000, 12_255, 12_287] {
         all.push(fault(Refusal::CellsChanged, move |s| s.cells.push((cell, s.taken() + 1))));
@@ -342,26 +319,26 @@ pub fn end_faults() -> Vec<Fault> {
     all
 }
 
+/// Some are 1 or 2 when cut to fewer bits.
+pub const BAD_RULEBOOKS: [u64; 8] = [0, 3, 255, 257, 258, 65_537, 1 << 32 | 1, u64::MAX];
+
 pub fn fresh_faults() -> Vec<Fault> {
     let mut all = Vec::new();
-    for rulebook in [0, 3, 255, 257, 258, 65_537, 1 << 32 | 1, u64::MAX] {
+    for rulebook in BAD_RULEBOOKS {
         all.push(fault(Refusal::Rulebook, move |s| s.fresh = rulebook));
     }
-    for length in [0, 1, 12_303, 12_305, 20_000] {
-        all.push(fault(Refusal::Book, move |s| s.book_length = length));
-    }
+    all.extend(of_book(wrong_lengths(&DAYS)));
     all
 }
 
+pub const BAD_GROUPS: [u64; 7] = [0, 129, 255, 256, 257, 1 << 32 | 3, u64::MAX];
+pub const BAD_FAMILIES: [u64; 7] = [16, 17, 255, 256, 257, 1 << 32, u64::MAX];
+
 pub fn ask_faults() -> Vec<Fault> {
-    let mut all = book_faults();
-    let out = [
-        (0, [0, 129, 255, 256, 257, 1 << 32 | 3, u64::MAX]),
-        (1, [0, 4, 255, 256, 257, 1 << 32 | 1, u64::MAX]),
-        (2, [16, 17, 255, 256, 257, 1 << 32, u64::MAX]),
-    ];
-    for (which, numbers) in out {
-        for number in numbers {
+    let mut all = of_book(book_faults(&DAYS));
+    let kinds = [0, 4, 5, 255, 256, 257, 1 << 32 | 1, u64::MAX];
+    for (which, numbers) in [&BAD_GROUPS[..], &kinds, &BAD_FAMILIES].into_iter().enumerate() {
+        for &number in numbers {
             all.push(fault(Refusal::Asked, move |s| s.asked[which] = number));
         }
     }

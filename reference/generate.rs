@@ -21,7 +21,7 @@ pub fn random_case(random: &mut Random, i: usize) -> Case {
     }
 }
 
-fn start_of_book(random: &mut Random) -> (u8, u32) {
+pub fn start_of_book(random: &mut Random) -> (u8, u32) {
     let rulebook = random.within(1, 2) as u8;
     let last_date = if random.one_in(4) { 0 } else { any_date(random) };
     (rulebook, last_date)
@@ -35,7 +35,7 @@ fn write_book(random: &mut Random, script: &mut Script, rulebook: u8, last_date:
     }
 }
 
-fn next_date(random: &mut Random, last_date: u32) -> u32 {
+pub fn next_date(random: &mut Random, last_date: u32) -> u32 {
     if last_date == 0 {
         any_date(random)
     } else {
@@ -198,7 +198,7 @@ fn sound_book(random: &mut Random, rulebook: u8, last_date: u32) -> Vec<u8> {
 }
 
 /// A short log may come in any drops; a long one not byte by byte.
-fn feed_for(random: &mut Random, log: &[u8]) -> Feed {
+pub fn feed_for(random: &mut Random, log: &[u8]) -> Feed {
     match some_feed(random) {
         Feed::Drops(size) if log.len() / size > 5_000 => Feed::Drops(4_097),
         feed => feed,

@@ -1,12 +1,12 @@
 //! `bin/install` into a folder with a space in its name, and a day from there where the prover is not on the path.
-use crate::book;
 use crate::cases::Feed;
+use crate::desk::{self, Desk};
 use crate::ending::{unless, Endings};
 use crate::run::{command, run};
 use crate::sheet;
 use crate::stage::{empty_folder, has_status, prints, text, Example, Stage};
 use std::fs;
-use std::path::Path;
+use std::path::{Path, PathBuf};
 use std::process::{Command, Output};
 
 const NAME: &str = "a desk";
@@ -49,23 +49,29 @@ fn commit(stage: &Stage) -> String {
     }
 }
 
-fn start(desk: &Path, folder: &Path, words: &[&str], input: &[u8]) -> Result<Output, String> {
-    let mut command = command(&[desk.join("bin/run").display().to_string()], folder);
+fn start(place: &Path, folder: &Path, words: &[&str], input: &[u8]) -> Result<Output, String> {
+    let mut command = command(&[place.join("bin/run").display().to_string()], folder);
     command.args(words).env("PATH", SYSTEM_PATH);
     run(command, folder, input, Feed::Pipe).map_err(text)
 }
 
-/// A fresh book, the sample day on it, and the sheet of exemptions.
-fn day(stage: &Stage, desk: &Path) -> Result<(), String> {
-    let folder = empty_folder(stage.folder, "installed")?;
-    let mut fresh = vec![0; book::LENGTH];
-    book::make_fresh(&mut fresh, 1);
+/// A fresh book of either desk with a day on it, the sample one for the clerk, and the sheet of exemptions.
+fn day(stage: &Stage, place: &Path) -> Result<(), String> {
     let log = fs::read(stage.root.join("examples/20240305.axd")).map_err(text)?;
-    let made = start(desk, &folder, &["newbook", "1"], &[])?;
-    prints(&made, "made book.axb\n")?;
+    day_of(stage, place, &desk::DAYS, log)?;
+    let folder = day_of(stage, place, &desk::POSITIONS, (desk::POSITIONS.example_log)(20240305))?;
+    prints(&start(place, &folder, &["sheet"], &[])?, &sheet::page([0; 5]))
+}
+
+fn day_of(stage: &Stage, place: &Path, desk: &'static Desk, log: Vec<u8>) -> Result<PathBuf, String> {
+    let folder = empty_folder(stage.folder, "installed")?;
+    let mut words = vec!["newbook", "1"];
+    words.extend(desk.asked);
+    let made = start(place, &folder, &words, &[])?;
+    prints(&made, &format!("made {}\n", desk.file))?;
     has_status(&made, 0)?;
-    let example = Example::of(&fresh, log);
+    let example = Example::of(desk, &desk.form.fresh(1), log);
     example.is_kept(&folder)?;
-    example.is_done(&start(desk, &folder, &["clerk"], &example.log)?, &folder)?;
-    prints(&start(desk, &folder, &["sheet"], &[])?, &sheet::page([0; 5]))
+    example.is_done(&start(place, &folder, &[desk.name], &example.log)?, &folder)?;
+    Ok(folder)
 }

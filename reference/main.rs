@@ -1,14 +1,18 @@
 //! A second reading of document 01 in plain Rust, to hold the proved programs against. It shares nothing with them.
 //!
-//! The reading: `dates`, `rules`, `tables`, `book`, `refusal`, `calls` (the six calls), `clerk`, `replay`.
-//! The cases: `build` (data and its bytes), `days`, `scene` and `faults`; `edges`, `broker_edges` (request K2),
+//! The reading: `dates`, `rules`, `tables`, `book`, `refusal`, `calls` (the six calls), `positions` (request K4),
+//! `clerk` (either program), `replay`. `desk` says what is the one clerk's and what the other's.
+//! The cases: `build` (data and its bytes), `days`, `scene`, `book_scene` and `faults`; `edges`, `broker_edges` (K2),
 //! `sheet_edges` (K3), `script_edges`, `clerk_edges`, `generate` (random ones), `large` (a million records); `years`,
-//! in which `join` joins two groups (demand 3).
+//! in which `join` joins two groups (demand 3). Each has its like for positions, as `position_edges`.
 //! The check: `run` (with a time limit), `parallel`, `compare`, `tally` (what was reached), `join_years`, `check`.
 //! Around a day: `ending` (passed, failed or left out), `stage` (an example in a folder), `failing` (the write-back
 //! made to fail), `permissions`, `newbook`, `sheet`, `unusable` (books and streams), `races` (two clerks at once),
-//! `starting` (`bin/run`), `signals`, `installed` (`bin/install`), `system_faults` (by strace). And `timing`.
+//! `both_desks` (one of each), `starting` (`bin/run`), `signals`, `installed` (`bin/install`), `system_faults` (by
+//! strace). And `timing`.
 mod book;
+mod book_scene;
+mod both_desks;
 mod broker_edges;
 mod build;
 mod calls;
@@ -19,6 +23,7 @@ mod clerk_edges;
 mod compare;
 mod dates;
 mod days;
+mod desk;
 mod edges;
 mod ending;
 mod failing;
@@ -31,6 +36,18 @@ mod large;
 mod newbook;
 mod parallel;
 mod permissions;
+mod position_build;
+mod position_clerk_edges;
+mod position_days;
+mod position_edges;
+mod position_examples;
+mod position_faults;
+mod position_generate;
+mod position_joins;
+mod position_lines;
+mod position_scene;
+mod position_years;
+mod positions;
 mod races;
 mod random;
 mod refusal;
@@ -56,6 +73,7 @@ use std::path::Path;
 use std::process::ExitCode;
 
 const USAGE: &str = "usage: reference clerk
+       reference position_clerk
        reference replay
        reference check SEED FRESH-SEED ROOT [WORDS BEFORE A PROGRAM]
        reference time VERSION FOLDER PROGRAM [ITS WORDS]";
@@ -64,7 +82,8 @@ fn main() -> ExitCode {
     let words: Vec<String> = std::env::args().collect();
     let rest: Vec<&str> = words.iter().skip(1).map(String::as_str).collect();
     let result = match rest[..] {
-        ["clerk"] => clerk::program(),
+        ["clerk"] => clerk::program(&desk::DAYS),
+        ["position_clerk"] => clerk::program(&desk::POSITIONS),
         ["replay"] => replay_program(),
         ["check", seed, fresh, root, ref before @ ..] => return check::check([seed, fresh], Path::new(root), before),
         ["time", version @ ("1" | "2"), folder, ref theirs @ ..] if !theirs.is_empty() => {

@@ -19,12 +19,12 @@ pub struct Held {
     pub parent: PathBuf,
 }
 
-pub fn held_by_permissions(stage: &Stage, name: &str, program: &Path) -> Result<Held, String> {
+pub fn held_by_permissions(stage: &Stage, name: &str) -> Result<Held, String> {
     if !is_root() {
         let words = stage.programs.through_run(name);
         return Ok(Held { as_nobody: false, words, parent: stage.folder.to_path_buf() });
     }
-    let (words, parent) = open_to_nobody(stage, name, program)?;
+    let (words, parent) = open_to_nobody(stage, name)?;
     Ok(Held { as_nobody: true, words, parent })
 }
 
@@ -37,16 +37,17 @@ pub fn cannot_reach(path: &Path) -> Option<String> {
 }
 
 /// Where the other user cannot reach our folders, a copy of the program in the system's folder for such things.
-fn open_to_nobody(stage: &Stage, name: &str, program: &Path) -> Result<(Vec<String>, PathBuf), String> {
-    if cannot_reach(program).or(cannot_reach(stage.folder)).is_none() {
-        return Ok((stage.programs.words(program), stage.folder.to_path_buf()));
+fn open_to_nobody(stage: &Stage, name: &str) -> Result<(Vec<String>, PathBuf), String> {
+    let program = stage.programs.path(name);
+    if cannot_reach(&program).or(cannot_reach(stage.folder)).is_none() {
+        return Ok((stage.programs.words(name), stage.folder.to_path_buf()));
     }
     let elsewhere = std::env::temp_dir().join(format!("reference-{}", std::process::id()));
     fs::create_dir_all(&elsewhere).map_err(text)?;
     fs::set_permissions(&elsewhere, fs::Permissions::from_mode(0o755)).map_err(text)?;
     let copy = elsewhere.join(name);
     fs::copy(program, &copy).map_err(text)?;
-    Ok((stage.programs.words(&copy), elsewhere))
+    Ok((stage.programs.words_of(&copy), elsewhere))
 }
 
 impl Held {

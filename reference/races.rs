@@ -1,9 +1,8 @@
 //! Two clerks at once on one book: whatever the order, no day that was reported done may be missing.
-use crate::build::{self, Day};
+use crate::build;
 use crate::cases::Feed;
-use crate::clerk_edges::{example_book, example_day};
 use crate::compare::{nothing_else, same_file};
-use crate::ending::{Ending, Endings};
+use crate::ending::{unless, Ending, Endings};
 use crate::parallel::both_at_once;
 use crate::run::{command, run, Waiting};
 use crate::stage::{has_status, prints, says, text, Example, Stage};
@@ -13,20 +12,28 @@ use std::process::Output;
 use std::time::{Duration, Instant};
 
 pub fn races(stage: &Stage) -> Endings {
+    let lacking = stage.pipes_are_long();
     let all = [
         ("two days through bin/run", two_through_run(stage).into()),
         ("two days without bin/run", two_raw(stage).into()),
-        ("a second clerk while the first waits for its log", second_clerk(stage).into()),
-        ("a book changed while its clerk waits", changed_meanwhile(stage).into()),
+        ("a second clerk while the first waits for its log", unless(lacking.clone(), || second_clerk(stage))),
+        ("a book changed while its clerk waits", unless(lacking, || changed_meanwhile(stage))),
     ];
     all.map(|(name, ending): (&str, Ending)| (name.to_string(), ending)).into()
 }
 
-const ROUNDS: usize = 200;
+/// The clerk of positions has the same care with its file: fewer rounds do.
+fn rounds(stage: &Stage) -> usize {
+    if stage.desk.mark == "AXP" {
+        40
+    } else {
+        200
+    }
+}
 
 /// Two days after the book's last: the second can come first, the first then no more.
-fn two_days() -> [Vec<u8>; 2] {
-    [20240305, 20240306].map(|date| Day { date, ..example_day() }.log())
+fn two_days(stage: &Stage) -> [Vec<u8>; 2] {
+    [20240305, 20240306].map(stage.desk.example_log)
 }
 
 /// How a clerk said that it went.
@@ -62,21 +69,21 @@ impl Round {
 }
 
 /// Both at the same moment, each on its own day.
-fn round(words: &[String], folder: &Path, days: &[Vec<u8>; 2]) -> Result<Round, String> {
+fn round(stage: &Stage, words: &[String], folder: &Path, days: &[Vec<u8>; 2]) -> Result<Round, String> {
     let [first, second] = both_at_once(|i| run(command(words, folder), folder, &days[i], Feed::Pipe));
     let outputs = [first.map_err(text)?, second.map_err(text)?];
     let told = [told(&outputs[0])?, told(&outputs[1])?];
-    nothing_else(folder)?;
-    let book = fs::read(folder.join("book.axb")).map_err(text)?;
+    nothing_else(folder, stage.desk)?;
+    let book = fs::read(folder.join(stage.desk.file)).map_err(text)?;
     Ok(Round { outputs, told, book })
 }
 
 /// The texts are the reference's, of the days that were reported done one after the other, and so is the book.
-fn is_in_order(round: &Round, days: &[Vec<u8>; 2]) -> Result<(), String> {
-    let mut book = example_book();
+fn is_in_order(stage: &Stage, round: &Round, days: &[Vec<u8>; 2]) -> Result<(), String> {
+    let mut book = (stage.desk.example_book)();
     for ((log, output), told) in days.iter().zip(&round.outputs).zip(&round.told) {
         if *told == Told::Done {
-            let expected = Example::of(&book, log.clone());
+            let expected = Example::of(stage.desk, &book, log.clone());
             prints(output, &expected.text)?;
             book = expected.after;
         }
@@ -95,27 +102,28 @@ fn all_rounds(
     words: &[String],
     mut judge: impl FnMut(&Round) -> Result<(), String>,
 ) -> Result<(), String> {
-    let days = two_days();
-    let example = Example::worked();
-    for i in 0..ROUNDS {
+    let days = two_days(stage);
+    let example = stage.example();
+    for i in 0..rounds(stage) {
         let folder = example.folder(stage.folder, "race")?;
-        let round = round(words, &folder, &days).map_err(|what| format!("round {i}: {what}"))?;
+        let round = round(stage, words, &folder, &days).map_err(|what| format!("round {i}: {what}"))?;
         judge(&round).map_err(|what| format!("round {i}: {:?}: {what}", round.told))?;
     }
     Ok(())
 }
 
 fn two_through_run(stage: &Stage) -> Result<Ending, String> {
-    let days = two_days();
+    let days = two_days(stage);
     let (mut both, mut late) = (0, 0);
-    all_rounds(stage, &stage.programs.through_run("clerk"), |round| {
+    all_rounds(stage, &stage.programs.through_run(stage.desk.name), |round| {
         round.turned_away().try_for_each(|output| has_status(output, 1))?;
         both += (round.told == [Told::Done, Told::Done]) as usize;
         late += (round.told[0] == Told::Late) as usize;
-        is_in_order(round, &days)
+        is_in_order(stage, round, &days)
     })?;
-    let away = ROUNDS - both - late;
-    Ok(Ending::Passed(format!("both kept in {both} of {ROUNDS}, {late} came late, in {away} one was turned away")))
+    let all = rounds(stage);
+    let away = all - both - late;
+    Ok(Ending::Passed(format!("both kept in {both} of {all}, {late} came late, in {away} one was turned away")))
 }
 
 /// Between a clerk's second look at the book and its rename another can rename its own, and have its last look: then
@@ -128,31 +136,31 @@ fn has_lost_a_day(round: &Round, alone: &[Example; 2]) -> bool {
 
 /// Without the lock a day can be lost in that way, which is counted, and in no other.
 fn two_raw(stage: &Stage) -> Result<Ending, String> {
-    let days = two_days();
-    let alone = [0, 1].map(|i| Example::of(&example_book(), days[i].clone()));
+    let days = two_days(stage);
+    let alone = [0, 1].map(|i| Example::of(stage.desk, &(stage.desk.example_book)(), days[i].clone()));
     let mut lost = 0;
-    all_rounds(stage, &stage.programs.words(&stage.programs.clerk), |round| {
-        round.turned_away().try_for_each(|output| says(output, &[NOT_OURS]))?;
+    all_rounds(stage, &stage.programs.words(stage.desk.name), |round| {
+        round.turned_away().try_for_each(|output| says(output, &[&stage.desk.says_of_book(NOT_OURS)]))?;
         if has_lost_a_day(round, &alone) {
             lost += 1;
             return Ok(());
         }
-        is_in_order(round, &days)
+        is_in_order(stage, round, &days)
     })?;
-    Ok(Ending::Passed(format!("in {lost} of {ROUNDS} rounds a day was lost")))
+    Ok(Ending::Passed(format!("in {lost} of {} rounds a day was lost", rounds(stage))))
 }
 
 /// Said by a clerk that finds another's book, before its rename or after it.
-const NOT_OURS: &str = "clerk: book.axb is not ";
-const CHANGED: &str = "clerk: book.axb is not what this day was judged on: ";
+const NOT_OURS: &str = "is not ";
+const CHANGED: &str = "is not what this day was judged on: ";
 
 fn second_clerk(stage: &Stage) -> Result<(), String> {
-    let example = Example::long();
+    let example = stage.long_example();
     let folder = example.folder(stage.folder, "second-clerk")?;
     let (first, rest) = example.halves();
     let clerk = Waiting::begin(stage.clerk(&folder), first).map_err(text)?;
     let began = Instant::now();
-    let second = run(stage.clerk(&folder), &folder, &two_days()[1], Feed::Pipe).map_err(text)?;
+    let second = run(stage.clerk(&folder), &folder, &two_days(stage)[1], Feed::Pipe).map_err(text)?;
     let took = began.elapsed();
     let output = clerk.go_on(rest).map_err(text)?;
     prints(&second, "")?;
@@ -165,14 +173,16 @@ fn second_clerk(stage: &Stage) -> Result<(), String> {
 }
 
 fn changed_meanwhile(stage: &Stage) -> Result<(), String> {
-    let example = Example::long();
+    let example = stage.long_example();
     let folder = example.folder(stage.folder, "changed")?;
     let (first, rest) = example.halves();
     let clerk = Waiting::begin(stage.raw_clerk(&folder), first).map_err(text)?;
-    let other = build::book(1, 20240304, &[]);
-    fs::write(folder.join("book.axb"), &other).map_err(text)?;
+    let book = folder.join(stage.desk.file);
+    let head = build::head_of(&stage.desk.form.mark, 1, 20240304);
+    let other = build::with_totals(head, example.book.len(), &[]);
+    fs::write(&book, &other).map_err(text)?;
     let output = clerk.go_on(rest).map_err(text)?;
-    says(&output, &[CHANGED])?;
-    same_file(&folder.join("book.axb"), Some(&other))?;
-    nothing_else(&folder)
+    says(&output, &[&stage.desk.says_of_book(CHANGED)])?;
+    same_file(&book, Some(&other))?;
+    nothing_else(&folder, stage.desk)
 }

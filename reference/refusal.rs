@@ -1,5 +1,6 @@
 //! The refusals of document 01. Two of its numbers stand at two places in an order: each place has a case of its
-//! own here, so that a run can show that both were reached. So has the 11 of brokers (document 02, K2).
+//! own here, so that a run can show that both were reached. So has the 11 of brokers (document 02, K2), and each part
+//! of a position log, which is 22 for any fault in it (K4).
 
 #[derive(Clone, Copy, PartialEq, Eq, PartialOrd, Ord, Debug)]
 pub enum Refusal {
@@ -27,6 +28,18 @@ pub enum Refusal {
     CellsChanged,
     Findings,
     Asked,
+    Positions(Part),
+}
+
+/// Where a position log's fault is.
+#[derive(Clone, Copy, PartialEq, Eq, PartialOrd, Ord, Debug)]
+pub enum Part {
+    Header,
+    Length,
+    Contract,
+    Account,
+    Record,
+    Unknown,
 }
 
 use Refusal::*;
@@ -55,6 +68,7 @@ impl Refusal {
             TablesChanged | CellsChanged => 19,
             Findings => 20,
             Asked => 21,
+            Positions(_) => 22,
         }
     }
 
@@ -64,6 +78,12 @@ impl Refusal {
             Brokers => " (brokers)",
             TablesChanged => " (tables)",
             CellsChanged => " (cells)",
+            Positions(Part::Header) => " (header)",
+            Positions(Part::Length) => " (length)",
+            Positions(Part::Contract) => " (contract)",
+            Positions(Part::Account) => " (account)",
+            Positions(Part::Record) => " (record)",
+            Positions(Part::Unknown) => " (unknown number)",
             _ => "",
         }
     }
@@ -104,15 +124,30 @@ const END: [Refusal; 12] = [
     Findings,
 ];
 
+/// Those of a position log could stand in any order, as they have one number.
+const JUDGE: [Refusal; 10] = [
+    Positions(Part::Header),
+    Positions(Part::Length),
+    Positions(Part::Contract),
+    Positions(Part::Account),
+    Positions(Part::Record),
+    Positions(Part::Unknown),
+    Book,
+    OtherRulebook,
+    NotLater,
+    Findings,
+];
+
 /// A call's order of refusals, as document 01 writes it. The two of number 11 could stand either way round.
 pub fn order(call: &str) -> &'static [Refusal] {
     match call {
-        "fresh" => &[Rulebook, Book],
+        "fresh" | "position fresh" => &[Rulebook, Book],
         "open" => &OPEN,
         "take" => &TAKE,
         "end" => &END,
         "abandon" => &[DayState],
-        "ask" => &[Book, Asked],
+        "ask" | "position ask" => &[Book, Asked],
+        "judge" => &JUDGE,
         _ => panic!("no call {call}"),
     }
 }

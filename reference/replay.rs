@@ -1,5 +1,7 @@
 //! The replay interpreter: a script of calls, a line after each.
+use crate::book::{DAYS, POSITIONS};
 use crate::calls::{self, Day, State};
+use crate::positions;
 use crate::refusal::Refusal;
 use crate::rules;
 use crate::tables::Header;
@@ -11,6 +13,8 @@ const MOST_FINDINGS: u32 = 70_000;
 const LONGEST_BOOK: u32 = 20_000;
 const LONGEST_TABLES: u32 = 8_192;
 const LONGEST_RECORD: u32 = 64;
+const LONGEST_POSITION_BOOK: u32 = 8_000;
+const LONGEST_POSITION_LOG: u32 = 300_000;
 
 /// What was called and how it was answered.
 pub type Reached = Vec<(&'static str, Option<Refusal>)>;
@@ -28,6 +32,7 @@ struct Machine {
     counts: Vec<u32>,
     findings: Vec<u8>,
     tables: Vec<u8>,
+    position_book: Vec<u8>,
 }
 
 /// What is left of the script. None: the step is cut off.
@@ -50,6 +55,11 @@ impl<'a> Script<'a> {
 
     fn u64(&mut self) -> Option<u64> {
         Some(u64::from_le_bytes(self.bytes(8)?.try_into().unwrap()))
+    }
+
+    /// Group, kind and family.
+    fn asked(&mut self) -> Option<[u64; 3]> {
+        Some([self.u64()?, self.u64()?, self.u64()?])
     }
 
     fn at_most(&mut self, most: u32) -> Option<usize> {
@@ -102,14 +112,15 @@ pub fn replay(script: &[u8]) -> Outcome {
 
 impl Machine {
     fn new() -> Machine {
-        let (book, counts, findings, tables) = (Vec::new(), Vec::new(), Vec::new(), Vec::new());
-        Machine { state: State::Closed, book, counts, findings, tables }
+        let [book, findings, tables, position_book] = [const { Vec::new() }; 4];
+        Machine { state: State::Closed, book, counts: Vec::new(), findings, tables, position_book }
     }
 
     fn step(&mut self, script: &mut Script) -> Option<Step> {
         let letter = script.byte()?;
         match letter {
             b'f' | b'o' | b't' | b'm' | b'e' | b'a' | b'q' => self.call(letter as char, script),
+            b'g' | b'p' | b'r' => self.position_call(letter as char, script),
             b'x' => Some(Step::Exemption(rules::is_spared(script.bytes(6)?.try_into().unwrap()))),
             _ => self.set(letter, script).map(|()| Step::Quiet),
         }
@@ -136,10 +147,9 @@ impl Machine {
                 self.findings = vec![script.byte()?; n];
             }
             b'B' => self.book = vec![0; script.at_most(LONGEST_BOOK)?],
-            b'b' => {
-                let (at, n) = (script.u32()? as usize, script.u32()? as usize);
-                self.book.get_mut(at..at + n)?.copy_from_slice(script.bytes(n)?);
-            }
+            b'b' => put(&mut self.book, script)?,
+            b'A' => self.position_book = vec![0; script.at_most(LONGEST_POSITION_BOOK)?],
+            b'j' => put(&mut self.position_book, script)?,
             b'T' => self.tables = script.counted(LONGEST_TABLES)?.to_vec(),
             _ => return None,
         }
@@ -149,7 +159,7 @@ impl Machine {
     fn call(&mut self, letter: char, script: &mut Script) -> Option<Step> {
         let nothing = |()| String::new();
         let (call, answer) = match letter {
-            'f' => ("fresh", calls::fresh(script.u64()?, &mut self.book).map(nothing)),
+            'f' => ("fresh", calls::fresh(&DAYS, script.u64()?, &mut self.book).map(nothing)),
             'o' => {
                 let answer = calls::open(&mut self.state, &self.tables, &self.book, &mut self.counts);
                 ("open", answer.map(nothing))
@@ -166,9 +176,28 @@ impl Machine {
             'e' => ("end", self.end(script.counted(LONGEST_RECORD)?).map(|n| format!(" {n}"))),
             'a' => ("abandon", calls::abandon(&mut self.state).map(nothing)),
             _ => {
-                let (group, kind, family) = (script.u64()?, script.u64()?, script.u64()?);
-                let answer = calls::ask(&self.book, group, kind, family);
+                let answer = calls::ask(&DAYS, &self.book, script.asked()?);
                 ("ask", answer.map(|(total, rung)| format!(" {total} {rung}")))
+            }
+        };
+        Some(Step::Call { letter, call, answer })
+    }
+
+    /// The calls on the position book, which know no other state.
+    fn position_call(&mut self, letter: char, script: &mut Script) -> Option<Step> {
+        let (call, answer) = match letter {
+            'g' => {
+                let answer = calls::fresh(&POSITIONS, script.u64()?, &mut self.position_book);
+                ("position fresh", answer.map(|()| String::new()))
+            }
+            'p' => {
+                let log = script.counted(LONGEST_POSITION_LOG)?;
+                let answer = positions::judge(log, &mut self.position_book, &mut self.findings);
+                ("judge", answer.map(|n| format!(" {n}")))
+            }
+            _ => {
+                let answer = calls::ask(&POSITIONS, &self.position_book, script.asked()?);
+                ("position ask", answer.map(|(total, rung)| format!(" {total} {rung}")))
             }
         };
         Some(Step::Call { letter, call, answer })
@@ -187,11 +216,26 @@ impl Machine {
             Ok(more) => (0, more),
             Err(refusal) => (refusal.number(), String::new()),
         };
-        let book = checksum(self.book.iter().copied());
-        let counts = counts_checksum(&self.counts);
-        let findings = checksum(self.findings.iter().copied());
-        writeln!(text, "{letter} {number} {} {book} {counts} {findings}{more}", shown(&self.state)).unwrap();
+        writeln!(text, "{letter} {number} {}{more}", self.shown_to(letter)).unwrap();
     }
+
+    /// What stands in a call's line of all that there is.
+    fn shown_to(&self, letter: char) -> String {
+        let [book, findings, position_book] =
+            [&self.book, &self.findings, &self.position_book].map(|bytes| checksum(bytes.iter().copied()));
+        match letter {
+            'g' | 'r' => format!("{position_book}"),
+            'p' => format!("{position_book} {findings}"),
+            _ => format!("{} {book} {} {findings}", shown(&self.state), counts_checksum(&self.counts)),
+        }
+    }
+}
+
+/// Bytes into a book, none of them past its end.
+fn put(book: &mut [u8], script: &mut Script) -> Option<()> {
+    let (at, n) = (script.u32()? as usize, script.u32()? as usize);
+    book.get_mut(at..at + n)?.copy_from_slice(script.bytes(n)?);
+    Some(())
 }
 
 fn shown(state: &State) -> String {

@@ -1,4 +1,5 @@
 //! What the exchanges' texts say (document 01, "What counts" and "Ladders", as document 02 changes it), with no bytes.
+//! Positions (K4) come last.
 
 /// The number of contract and account entries, groups and so on that everything is laid out by.
 pub const GROUPS: usize = 128;
@@ -90,5 +91,24 @@ pub fn sanction(rulebook: u8, has_member: bool, rung: u8) -> u8 {
         (true, 2) => 4,
         (true, 3) => 5,
         _ => rung,
+    }
+}
+
+/// A group's long or short sum on one contract. 003 spares who is not above the previous day's limit too.
+pub fn is_over(rulebook: u8, sum: u64, today: u32, previous: u32) -> bool {
+    sum > today as u64 && (rulebook != 1 || sum > previous as u64)
+}
+
+/// Position logs have futures only, which are one family in rulebook 1.
+pub fn position_family(rulebook: u8, product: u8) -> usize {
+    family(rulebook, 1, product)
+}
+
+/// Watch list, no opening for 10 trading days, no opening for 6 months; members change nothing.
+pub fn position_sanction(rung: u8) -> u8 {
+    match rung {
+        1 => 2,
+        2 => 7,
+        _ => 8,
     }
 }

@@ -22,9 +22,7 @@ const MOST_PRINTED: u64 = 1 << 26;
 #[derive(Clone)]
 pub struct Programs {
     pub before: Vec<String>,
-    pub clerk: PathBuf,
-    pub newbook: PathBuf,
-    pub replay: PathBuf,
+    built: PathBuf,
     /// `bin/run`, which builds where needed and gives the exit status.
     pub run: PathBuf,
 }
@@ -33,9 +31,7 @@ impl Programs {
     pub fn of(root: &Path, before: &[&str]) -> Programs {
         Programs {
             before: before.iter().map(|word| word.to_string()).collect(),
-            clerk: root.join("target/bin/clerk"),
-            newbook: root.join("target/bin/newbook"),
-            replay: root.join("target/bin/replay"),
+            built: root.join("target/bin"),
             run: root.join("bin/run"),
         }
     }
@@ -45,8 +41,17 @@ impl Programs {
         vec![self.run.display().to_string(), name.to_string()]
     }
 
-    /// The words that start a program.
-    pub fn words(&self, program: &Path) -> Vec<String> {
+    pub fn path(&self, name: &str) -> PathBuf {
+        self.built.join(name)
+    }
+
+    /// The words that start a program by its name without `bin/run`.
+    pub fn words(&self, name: &str) -> Vec<String> {
+        self.words_of(&self.path(name))
+    }
+
+    /// The same for one that stands elsewhere.
+    pub fn words_of(&self, program: &Path) -> Vec<String> {
         let mut words = self.before.clone();
         words.push(program.display().to_string());
         words

@@ -1,4 +1,5 @@
 //! One call with all that it is handed, written out by hand in a script. Faults are put into scenes.
+use crate::book_scene::BookScene;
 use crate::build::{self, Account, Contract, Day, Record, Script, Total};
 use crate::days::{any_date, some_broker, some_version};
 use crate::random::Random;
@@ -8,9 +9,7 @@ pub struct Scene {
     /// The open day's header from byte 3, and its records taken; none where no day is open.
     pub day: Option<(Vec<u8>, u32)>,
     pub tables: Vec<u8>,
-    pub book_length: u32,
-    pub book_head: Vec<u8>,
-    pub totals: Vec<(u32, u16)>,
+    pub book: BookScene,
     pub counts: (u32, u32),
     pub cells: Vec<(u32, u32)>,
     pub findings: (u32, u8),
@@ -31,12 +30,8 @@ impl Scene {
             Some((head, taken)) => script.opened(head, *taken),
         }
         script.tables(&self.tables);
-        script.book(self.book_length);
-        let head = &self.book_head[..self.book_head.len().min(self.book_length as usize)];
-        script.book_bytes(0, head);
-        for &(at, total) in self.totals.iter().filter(|(at, _)| at + 2 <= self.book_length) {
-            script.book_bytes(at, &total.to_le_bytes());
-        }
+        script.book(self.book.length);
+        self.book.pieces().iter().for_each(|(at, piece)| script.book_bytes(*at, piece));
         script.counts(self.counts.0, self.counts.1);
         for &(i, value) in self.cells.iter().filter(|&&(i, _)| i < self.counts.0) {
             script.count(i, value);
@@ -168,9 +163,7 @@ pub fn scene_of(random: &mut Random, for_call: &str, rulebook: u8, version: u16)
     Scene {
         day: is_open.then(|| (day.head(), taken)),
         tables: day.tables(),
-        book_length: 12_304,
-        book_head: build::book_head(rulebook, last_date),
-        totals,
+        book: BookScene { length: 12_304, head: build::book_head(rulebook, last_date), totals },
         counts: (12_288, random.pick(&[0, 1, 4])),
         cells: vec![(scene_cell(1), 5)],
         findings: (random.pick(&[8, 9, 80]), random.next() as u8),

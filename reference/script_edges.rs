@@ -34,6 +34,12 @@ fn limits() -> Vec<Case> {
     for n in [8_192, 8_193] {
         all.push(around(format!("T {n}"), |s| s.tables(&vec![1; n])));
     }
+    for n in [8_000, 8_001, u32::MAX] {
+        all.push(around(format!("A {n}"), |s| s.position_book(n)));
+    }
+    for n in [0, 300_000, 300_001] {
+        all.push(around(format!("p {n}"), |s| s.judge(&vec![1; n])));
+    }
     for n in [0, 64, 65] {
         all.push(around(format!("t {n}"), |s| s.take(&vec![1; n])));
         all.push(around(format!("m {n}"), |s| s.take_often(3, &vec![1; n])));
@@ -43,27 +49,35 @@ fn limits() -> Vec<Case> {
     all
 }
 
-/// Either side of the book's and the counts' length.
+/// Either side of the books' and the counts' length.
 fn places() -> Vec<Case> {
-    let at = [(12_303, 1), (12_304, 0), (12_304, 1), (12_305, 0), (12_303, 2), (u32::MAX, 1), (u32::MAX, 0)];
-    let in_book = at.map(|(at, n)| around(format!("b {at} {n}"), |s| s.book_bytes(at, &vec![9; n])));
+    let around_end = |end| [(end - 1, 1), (end, 0), (end, 1), (end + 1, 0), (end - 1, 2), (u32::MAX, 1), (u32::MAX, 0)];
+    let in_book = around_end(12_304).map(|(at, n)| around(format!("b {at} {n}"), |s| s.book_bytes(at, &vec![9; n])));
+    let in_positions = around_end(4_112).map(|(at, n)| {
+        around(format!("j {at} {n}"), |s| {
+            s.position_book(4_112);
+            s.position_bytes(at, &vec![9; n]);
+            s.position_ask([1, 5, 0]);
+        })
+    });
+    let with_none = around("j with no book".to_string(), |s| s.position_bytes(0, &[]));
     let in_counts = [0, 9, 10, u32::MAX].map(|i| {
         around(format!("c {i}"), |s| {
             s.counts(10, 1);
             s.count(i, 2);
         })
     });
-    in_book.into_iter().chain(in_counts).collect()
+    in_book.into_iter().chain(in_positions).chain([with_none]).chain(in_counts).collect()
 }
 
 fn letters() -> Vec<Case> {
-    let unknown = [b' ', b'\n', b'0', b'n', b's', b'A', b'Q', b'X', 0, 255];
+    let unknown = [b' ', b'\n', b'0', b'n', b's', b'G', b'J', b'P', b'R', b'Q', b'X', 0, 255];
     unknown.map(|letter| around(format!("letter {letter}"), |s| s.0.push(letter))).into()
 }
 
 /// A script with every letter, cut after every byte of its last step.
 fn cut_steps() -> Vec<Case> {
-    let steps: [&dyn Fn(&mut Script); 15] = [
+    let steps: [&dyn Fn(&mut Script); 20] = [
         &|s| s.opened(&[1; 13], 7),
         &|s| s.counts(10, 1),
         &|s| s.count(0, 5),
@@ -79,11 +93,17 @@ fn cut_steps() -> Vec<Case> {
         &|s| s.exemption([1, 0, 1, 1, 1, 1]),
         &|s| s.open(),
         &|s| s.abandon(),
+        &|s| s.position_book(10),
+        &|s| s.position_bytes(0, &[1, 2, 3]),
+        &|s| s.position_fresh(1),
+        &|s| s.judge(&[1; 20]),
+        &|s| s.position_ask([1, 5, 0]),
     ];
     let mut all = Vec::new();
     let mut before = Script::default();
     before.counts(5, 5);
     before.book(5);
+    before.position_book(5);
     before.abandon();
     for step in steps {
         let mut whole = before.clone();

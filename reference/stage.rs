@@ -1,8 +1,6 @@
 //! Where the programs are tried: an example in a folder of its own, and what must hold there afterwards.
-use crate::build::Day;
-use crate::clerk;
-use crate::clerk_edges::{example_book, example_day};
 use crate::compare::{nothing_else, same_file, shortened};
+use crate::desk::Desk;
 use crate::run::{command, Programs};
 use std::fs;
 use std::io;
@@ -15,49 +13,57 @@ pub struct Stage<'a> {
     pub programs: &'a Programs,
     /// Scratch folders go here.
     pub folder: &'a Path,
+    /// Whose clerk is tried.
+    pub desk: &'static Desk,
 }
 
 impl Stage<'_> {
     /// The clerk as a clerk starts it.
     pub fn clerk(&self, folder: &Path) -> Command {
-        command(&self.programs.through_run("clerk"), folder)
+        command(&self.programs.through_run(self.desk.name), folder)
     }
 
     /// The program alone.
     pub fn raw_clerk(&self, folder: &Path) -> Command {
-        command(&self.programs.words(&self.programs.clerk), folder)
+        command(&self.programs.words(self.desk.name), folder)
+    }
+
+    /// A day that the desk's book takes.
+    pub fn example(&self) -> Example {
+        Example::of(self.desk, &(self.desk.example_book)(), (self.desk.example_log)(20240305))
+    }
+
+    /// The same with many records: who could write half of them knows that the clerk reads, and so that it has read its
+    /// book.
+    pub fn long_example(&self) -> Example {
+        Example::of(self.desk, &(self.desk.example_book)(), (self.desk.long_log)())
+    }
+
+    /// Says so where a pipe holds half of the long example: a position log cannot be longer.
+    pub fn pipes_are_long(&self) -> Option<String> {
+        let asked = Command::new("getconf").arg("PAGESIZE").output();
+        let page = asked.ok().and_then(|output| String::from_utf8_lossy(&output.stdout).trim().parse::<usize>().ok());
+        let holds = 16 * page.unwrap_or(1 << 16);
+        let half = (self.desk.long_log)().len() / 2;
+        (half <= holds).then(|| format!("a pipe can hold {holds} bytes, half of the longest log has {half}"))
     }
 }
 
 /// A book and a log, what the clerk prints of them, and the book afterwards.
 pub struct Example {
+    desk: &'static Desk,
     pub book: Vec<u8>,
     pub log: Vec<u8>,
     pub text: String,
     pub after: Vec<u8>,
 }
 
-/// With half of these, a log fills any pipe, 1 MiB where memory comes in pages of 64 KiB: who could write so much of it
-/// knows that the clerk reads, and so that it has read its book.
-const MANY: u32 = 120_000;
-
 impl Example {
     /// A day that the book takes.
-    pub fn of(book: &[u8], log: Vec<u8>) -> Example {
-        let outcome = clerk::clerk(Some(book), &log[..]).expect("a slice can be read");
+    pub fn of(desk: &'static Desk, book: &[u8], log: Vec<u8>) -> Example {
+        let outcome = desk.on(Some(book), &log);
         let after = outcome.book.expect("the day is not refused");
-        Example { book: book.to_vec(), log, text: outcome.text, after }
-    }
-
-    pub fn worked() -> Example {
-        Example::of(&example_book(), example_day().log())
-    }
-
-    /// The worked example with many records.
-    pub fn long() -> Example {
-        let day = example_day();
-        let records = vec![(day.records[0].0.clone(), MANY)];
-        Example::of(&example_book(), Day { records, ..day }.log())
+        Example { desk, book: book.to_vec(), log, text: outcome.text, after }
     }
 
     pub fn halves(&self) -> (&[u8], &[u8]) {
@@ -67,20 +73,20 @@ impl Example {
     /// A folder with the book in it.
     pub fn folder(&self, parent: &Path, name: &str) -> Result<PathBuf, String> {
         let folder = empty_folder(parent, name)?;
-        fs::write(folder.join("book.axb"), &self.book).map_err(text)?;
+        fs::write(folder.join(self.desk.file), &self.book).map_err(text)?;
         Ok(folder)
     }
 
     /// The book is as it was, and alone.
     pub fn is_kept(&self, folder: &Path) -> Result<(), String> {
-        same_file(&folder.join("book.axb"), Some(&self.book))?;
-        nothing_else(folder)
+        same_file(&folder.join(self.desk.file), Some(&self.book))?;
+        nothing_else(folder, self.desk)
     }
 
     /// The day is in the book, which is alone.
     pub fn is_entered(&self, folder: &Path) -> Result<(), String> {
-        same_file(&folder.join("book.axb"), Some(&self.after))?;
-        nothing_else(folder)
+        same_file(&folder.join(self.desk.file), Some(&self.after))?;
+        nothing_else(folder, self.desk)
     }
 
     /// The day was judged as if nothing had been.

@@ -4,7 +4,7 @@ use crate::ending::{is_root, unless, Ending, Endings};
 use crate::parallel::both_at_once;
 use crate::permissions::{cannot_reach, NOBODY};
 use crate::run::{command, run, shell_words};
-use crate::stage::{empty_folder, has_status, prints, said, says, says_one_line, text, Example, Stage};
+use crate::stage::{empty_folder, has_status, prints, said, says, says_one_line, text, Stage};
 use std::fs;
 use std::os::unix::fs::symlink;
 use std::os::unix::process::CommandExt;
@@ -20,21 +20,26 @@ pub fn starting(stage: &Stage) -> Endings {
         Ok(checkout) => checkout,
         Err(what) => return vec![("a small checkout".to_string(), Ending::Failed(what))],
     };
-    let tests: [(&str, Test); 9] = [
+    let tests: [(&str, Test); 7] = [
         ("two builds at once", |_, checkout| two_builds(checkout)),
         ("a build only where a source is newer", |_, checkout| builds_when_needed(checkout)),
         ("CDPATH and a relative path", |_, checkout| relative(checkout)),
         ("a symbolic link from elsewhere", linked),
-        ("standard input closed", |stage, _| closed_input(stage)),
         ("an empty name", |stage, _| wrong_name(stage, "")),
         ("an unknown name", |stage, _| wrong_name(stage, "nobody")),
         ("a library's name", |stage, _| wrong_name(stage, "desk")),
-        ("TMPDIR that is no folder", |stage, _| no_room_aside(stage)),
     ];
     let mut all: Endings = tests.map(|(name, test)| (name.to_string(), test(stage, &checkout).into())).into();
     let lacking = if is_root() { cannot_reach(&checkout) } else { None };
     all.push(("a checkout that cannot be written".to_string(), unless(lacking, || read_only(&checkout))));
     all
+}
+
+/// Of `bin/run`, what hangs on the clerk that it starts.
+pub fn starting_a_clerk(stage: &Stage) -> Endings {
+    let tests: [(&str, fn(&Stage) -> Result<(), String>); 2] =
+        [("standard input closed", closed_input), ("TMPDIR that is no folder", no_room_aside)];
+    tests.map(|(name, test)| (name.to_string(), test(stage).into())).into()
 }
 
 /// `bin/run` tells times by the second, and a source of the second in which it began to build is newer for it.
@@ -122,9 +127,9 @@ fn linked(stage: &Stage, checkout: &Path) -> Result<(), String> {
 }
 
 fn closed_input(stage: &Stage) -> Result<(), String> {
-    let example = Example::worked();
+    let example = stage.example();
     let folder = example.folder(stage.folder, "closed-input")?;
-    let words = shell_words("exec \"$@\" <&-", stage.programs.through_run("clerk"));
+    let words = shell_words("exec \"$@\" <&-", stage.programs.through_run(stage.desk.name));
     let output = run(command(&words, &folder), &folder, &[], Feed::Pipe).map_err(text)?;
     says_one_line(&output)?;
     has_status(&output, 1)?;
@@ -140,7 +145,7 @@ fn wrong_name(stage: &Stage, name: &str) -> Result<(), String> {
 
 /// A clerk needs no room for temporary files.
 fn no_room_aside(stage: &Stage) -> Result<(), String> {
-    let example = Example::worked();
+    let example = stage.example();
     let folder = example.folder(stage.folder, "no-room-aside")?;
     let mut command = stage.clerk(&folder);
     command.env("TMPDIR", folder.join("none"));

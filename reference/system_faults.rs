@@ -12,7 +12,9 @@ type Test = fn(&Aim) -> Result<(), String>;
 
 pub fn system_faults(stage: &Stage) -> Endings {
     let tests: [(&str, Test); 8] = [
-        ("reading the book is cut off by signals", |aim| goes_on(aim, Some("desk/book.axb"), "read")),
+        ("reading the book is cut off by signals", |aim| {
+            goes_on(aim, Some(&format!("desk/{}", aim.stage.desk.file)), "read")
+        }),
         ("reading the log is cut off by signals", |aim| goes_on(aim, Some("aside/log"), "read")),
         ("printing is cut off by signals", |aim| goes_on(aim, Some("aside/printed"), "write")),
         ("flushing is cut off by signals", |aim| goes_on(aim, None, "fsync")),
@@ -40,7 +42,7 @@ struct Aim<'a> {
 impl Aim<'_> {
     fn of<'a>(stage: &'a Stage<'a>) -> Result<Aim<'a>, String> {
         let folder = empty_folder(stage.folder, "faults")?;
-        let example = Example::worked();
+        let example = stage.example();
         let desk = example.folder(&folder, "desk")?;
         empty_folder(&folder, "aside")?;
         Ok(Aim { stage, folder, desk, example })
@@ -55,7 +57,7 @@ impl Aim<'_> {
             words.extend(["-P".to_string(), self.folder.join(file).display().to_string()]);
         }
         words.extend(["-e".to_string(), format!("inject={fault}")]);
-        words.extend(self.stage.programs.words(&self.stage.programs.clerk));
+        words.extend(self.stage.programs.words(self.stage.desk.name));
         let mut command = command(&words, &self.desk);
         command.stdout(File::create(&printed).map_err(text)?).stderr(Stdio::piped());
         let aside = self.folder.join("aside");
@@ -82,7 +84,7 @@ fn goes_on(aim: &Aim, file: Option<&str>, call: &str) -> Result<(), String> {
 fn cannot_flush(aim: &Aim) -> Result<(), String> {
     let output = aim.run(None, "fsync:error=ENOSPC:when=1")?;
     prints(&output, "")?;
-    says(&output, &["clerk: book.axb is left as it was, "])?;
+    says(&output, &[&aim.stage.desk.says_of_book("is left as it was, ")])?;
     aim.example.is_kept(&aim.desk)
 }
 
@@ -90,7 +92,9 @@ fn cannot_flush(aim: &Aim) -> Result<(), String> {
 fn cannot_rename(aim: &Aim) -> Result<(), String> {
     let output = aim.run(None, "?rename,?renameat,?renameat2:error=EIO")?;
     prints(&output, &aim.example.text)?;
-    says(&output, &["clerk: the new book cannot be renamed to book.axb: ", "\nclerk: book.axb is left as it was\n"])?;
+    let desk = aim.stage.desk;
+    let why = desk.says(&format!("the new book cannot be renamed to {}: ", desk.file));
+    says(&output, &[&why, &format!("\n{}\n", desk.says_of_book("is left as it was"))])?;
     aim.example.is_kept(&aim.desk)
 }
 
@@ -98,6 +102,6 @@ fn cannot_rename(aim: &Aim) -> Result<(), String> {
 fn cannot_flush_folder(aim: &Aim) -> Result<(), String> {
     let output = aim.run(None, "fsync:error=EIO:when=2")?;
     prints(&output, &aim.example.text)?;
-    says(&output, &["clerk: book.axb is the new book, its folder cannot be flushed to disk"])?;
+    says(&output, &[&aim.stage.desk.says_of_book("is the new book, its folder cannot be flushed to disk")])?;
     aim.example.is_entered(&aim.desk)
 }

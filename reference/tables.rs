@@ -53,6 +53,11 @@ impl Header {
         HEADER + ENTRY * (self.contracts as usize + self.accounts as usize)
     }
 
+    /// 1 to 32 contracts and 1 to 512 accounts.
+    pub fn numbers_fit(&self) -> bool {
+        (1..=32).contains(&self.contracts) && (1..=512).contains(&self.accounts)
+    }
+
     /// The entries of the contracts and of the accounts, of tables that have the header's length.
     fn split<'a>(&self, bytes: &'a [u8]) -> (&'a [[u8; ENTRY]], &'a [[u8; ENTRY]]) {
         bytes[HEADER..].as_chunks().0.split_at(self.contracts as usize)
@@ -76,8 +81,7 @@ fn check_header(bytes: &[u8]) -> Result<Header, Refusal> {
     if !dates::is_day(header.date) {
         return Err(Refusal::Date);
     }
-    let counts_fit = (1..=32).contains(&header.contracts) && (1..=512).contains(&header.accounts);
-    if !counts_fit || header.filler != 0 {
+    if !header.numbers_fit() || header.filler != 0 {
         return Err(Refusal::Header);
     }
     Ok(header)
@@ -98,7 +102,7 @@ fn contracts_are_sound(entries: &[[u8; ENTRY]], rulebook: u8) -> bool {
     true
 }
 
-fn accounts_are_sound(entries: &[[u8; ENTRY]]) -> bool {
+pub fn accounts_are_sound(entries: &[[u8; ENTRY]]) -> bool {
     let mut last = 0;
     for &[n, u, m, b, group, kind, zero, too] in entries {
         let number = u32::from_le_bytes([n, u, m, b]);
@@ -170,14 +174,19 @@ impl<'a> Tables<'a> {
     }
 
     pub fn account(&self, number: u32) -> Option<Account> {
-        let place = self.accounts.binary_search_by_key(&number, |entry| read32(entry, 0)).ok()?;
-        Some(account_of(&self.accounts[place]))
+        find_account(self.accounts, number)
     }
 }
 
 fn contract_of(place: usize, entry: &[u8; ENTRY]) -> Contract {
     let (id, largest) = (read16(entry, 0), read32(entry, 4));
     Contract { place, id, contract_type: entry[2], product: entry[3], largest }
+}
+
+/// Among entries that rise strictly.
+pub fn find_account(entries: &[[u8; ENTRY]], number: u32) -> Option<Account> {
+    let place = entries.binary_search_by_key(&number, |entry| read32(entry, 0)).ok()?;
+    Some(account_of(&entries[place]))
 }
 
 fn account_of(entry: &[u8; ENTRY]) -> Account {

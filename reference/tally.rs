@@ -1,5 +1,7 @@
 //! Which refusals of which call were reached, in how many cases and how often.
+use crate::desk::{self, Desk};
 use crate::edges::CALLS;
+use crate::position_scene::POSITION_CALLS;
 use crate::refusal::{order, Refusal};
 use std::collections::{BTreeMap, BTreeSet};
 
@@ -23,6 +25,13 @@ fn clerk_stops() -> Vec<(&'static str, u8, &'static str)> {
     all
 }
 
+/// The same for positions: 20 cannot come up.
+fn position_clerk_stops() -> Vec<(&'static str, u8, &'static str)> {
+    let refusals = order("judge").iter().filter(|&&refusal| refusal != Refusal::Findings);
+    let stops = refusals.map(|refusal| ("judge", refusal.number(), refusal.note()));
+    std::iter::once(("accepted", 0, "")).chain(stops).collect()
+}
+
 impl Tally {
     fn count(&mut self, call: String, label: String) {
         let key = (call, label);
@@ -35,8 +44,8 @@ impl Tally {
         self.count(call.to_string(), label);
     }
 
-    pub fn clerk(&mut self, call: &str, number: u8, note: &str) {
-        self.count(format!("clerk, {call}"), format!("{number}{note}"));
+    pub fn clerk(&mut self, desk: &Desk, call: &str, number: u8, note: &str) {
+        self.count(format!("{}, {call}", desk.name), format!("{number}{note}"));
     }
 
     pub fn close_case(&mut self) {
@@ -53,27 +62,30 @@ impl Tally {
         }
     }
 
-    /// Every number of every call, in its order, then the clerk's; the rows that must not be zero.
+    /// Every number of every call, in its order, then the clerks'; the rows that must not be zero.
     fn rows(with_large: bool) -> Vec<(String, String)> {
         let mut rows = Vec::new();
-        for call in CALLS {
+        for call in CALLS.into_iter().chain(POSITION_CALLS) {
             rows.push((call.to_string(), "0".to_string()));
             rows.extend(order(call).iter().map(|r| (call.to_string(), format!("{}{}", r.number(), r.note()))));
         }
         // only a log of more than a million records is refused with 14
         let clerk: Vec<_> = clerk_stops().into_iter().filter(|stop| with_large || stop.1 != 14).collect();
-        rows.extend(clerk.iter().map(|(call, n, note)| (format!("clerk, {call}"), format!("{n}{note}"))));
+        for (desk, stops) in [(&desk::DAYS, clerk), (&desk::POSITIONS, position_clerk_stops())] {
+            let row = |(call, n, note)| (format!("{}, {call}", desk.name), format!("{n}{note}"));
+            rows.extend(stops.into_iter().map(row));
+        }
         rows
     }
 
     /// Prints the table; gives the rows that were reached and those that were not.
     pub fn print(&self, with_large: bool) -> (usize, usize) {
-        println!("{:<16} {:<26} {:>7} {:>9}", "call", "number", "cases", "times");
+        println!("{:<24} {:<26} {:>7} {:>9}", "call", "number", "cases", "times");
         let (mut reached, mut missed) = (0, 0);
         for key in Tally::rows(with_large) {
             let (cases, times) = self.calls.get(&key).copied().unwrap_or_default();
             let note = if times == 0 { "  NEVER REACHED" } else { "" };
-            println!("{:<16} {:<26} {cases:>7} {times:>9}{note}", key.0, key.1);
+            println!("{:<24} {:<26} {cases:>7} {times:>9}{note}", key.0, key.1);
             if times == 0 {
                 missed += 1;
             } else {

@@ -26,7 +26,7 @@ struct Cast {
 
 /// Which groups may have members. Those of one group make the other's restrictions longer when the two are joined.
 #[derive(Clone, Copy)]
-enum Members {
+pub enum Members {
     Anywhere,
     OnlyInA,
     OnlyInB,
@@ -44,14 +44,14 @@ pub fn some_year(random: &mut Random, i: usize) -> Year {
     Year { rulebook: cast.rulebook, a: cast.groups[0], b: cast.groups[1], days }
 }
 
-fn shuffle<T>(random: &mut Random, items: &mut [T]) {
+pub fn shuffle<T>(random: &mut Random, items: &mut [T]) {
     for i in (1..items.len()).rev() {
         items.swap(i, random.below(i + 1));
     }
 }
 
 /// 5 to 40 dates of one year, at times with its last day.
-fn some_dates(random: &mut Random) -> Vec<u32> {
+pub fn some_dates(random: &mut Random) -> Vec<u32> {
     let year = random.within(2000, 2099) as u32 * 10_000;
     let all: Vec<u32> = (year + 101..=year + 1231).filter(|&date| dates::is_day(date)).collect();
     let n = random.within(5, 40);
@@ -94,7 +94,7 @@ fn some_contracts(random: &mut Random, rulebook: u8) -> Vec<Contract> {
 }
 
 /// One account to three for each group, their numbers mixed.
-fn some_accounts(random: &mut Random, groups: &[u8], members: Members) -> Vec<Account> {
+pub fn some_accounts(random: &mut Random, groups: &[u8], members: Members) -> Vec<Account> {
     let mut owners: Vec<u8> = groups.iter().flat_map(|&group| vec![group; random.within(1, 3)]).collect();
     shuffle(random, &mut owners);
     let mut number = random.pick(&[0, 70_000, u32::MAX - 1_000]);
@@ -113,7 +113,7 @@ fn some_accounts(random: &mut Random, groups: &[u8], members: Members) -> Vec<Ac
 }
 
 /// Some are left out of a day, never all.
-fn mostly<T: Clone>(random: &mut Random, all: &[T]) -> Vec<T> {
+pub fn mostly<T: Clone>(random: &mut Random, all: &[T]) -> Vec<T> {
     let left: Vec<T> = all.iter().filter(|_| !random.one_in(10)).cloned().collect();
     if left.is_empty() {
         return all.to_vec();

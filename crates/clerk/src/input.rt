@@ -1,21 +1,14 @@
 // What comes on standard input: the log, and first its header with the tables.
 use daylog::header::header_of;
 use files::input::Got;
-use files::input::fill;
-use libc::STDIN_FILENO;
 ghost use mathlib.Core.Path.{_≡_};
 ghost use Prim.Native.Nat.{_≤_};
 ghost use lib.ListN.{length};
 
-// Standard input that cannot be read counts as cut off there, and the clerk is told why.
 pub(crate) fn fill_from_input(buf: &mut [u8]) -> Got
     ensures { λ r. ⌜ r .count ≤ length (now (buf .exit)) ⌝ }
 {
-    let got = fill(STDIN_FILENO, buf);
-    if got.failed {
-        os::fail(b"clerk: standard input cannot be read");
-    }
-    got
+    office::input::fill_from_input(b"clerk", buf)
 }
 
 // The bytes of the two tables, or 0 where the header's numbers allow none: opening then refuses by the header alone.

@@ -2,6 +2,9 @@
 use crate::TRIES;
 use libc::EINTR;
 use libc::EINVAL;
+use libc::STDOUT_FILENO;
+ghost use mathlib.Core.Bool.{true};
+ghost use mathlib.Core.Path.{_≡_};
 ghost use Prim.Native.Nat.{_≤_};
 ghost use lib.ListN.{length};
 ghost use Rattle.libc.specs.Io.{Status};
@@ -40,6 +43,13 @@ pub fn put_all(fd: i32, bytes: &[u8]) -> usize
         done += put;
     }
     done
+}
+
+// Whether standard output took the whole text. None is always taken.
+pub fn put(text: &[u8]) -> bool
+    ensures { λ r. ⌜ (length (now (text .entry)) ≡ 0 → r ≡ true) ⌝ }
+{
+    put_all(STDOUT_FILENO, text) == text.len()
 }
 
 fn flush(fd: i32) -> i32

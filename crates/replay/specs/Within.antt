@@ -7,3 +7,4 @@ pub record Within (s : Setup) : Type 0 where
   pub findings : s .findings ≤ 70000
   pub book : s .book ≤ 20000
   pub tables : s .tables ≤ 8192
+  pub positions : s .positions ≤ 8000

@@ -1,9 +1,9 @@
 // The line after a call: its letter, the refusal's number, the state, the buffers' checksums, and what else it told.
-// The exemption test, which is no call, has a line of its own.
+// Calls on the book of positions look at no state and no counts, and their lines have none; the exemption test, which
+// is no call, has a line of its own.
 use daylog::header::Header;
 use desk::state::State;
-use files::output::put_all;
-use libc::STDOUT_FILENO;
+use files::output::put;
 ghost use Prim.Native.Nat.{_<_};
 
 // What an accepted call tells besides the state.
@@ -12,10 +12,6 @@ pub(crate) enum Told {
     Findings(usize),
     // The total and its rung.
     Total(u16, u8),
-}
-
-fn put(text: &[u8]) -> bool {
-    put_all(STDOUT_FILENO, text) == text.len()
 }
 
 pub(crate) fn bad() -> bool {
@@ -99,6 +95,14 @@ fn say_sums(book: &[u8], counts: &[u32], findings: &[u8]) -> bool {
     say(of_bytes(book)) && say(of_numbers(counts)) && say(of_bytes(findings))
 }
 
+// The step's letter.
+fn put_letter(one: &[u8]) -> bool {
+    if one.len() < 1 {
+        return true;
+    }
+    put(&one[0..1])
+}
+
 // Whether the whole line went out.
 pub(crate) fn print(
     one: &[u8],
@@ -109,13 +113,31 @@ pub(crate) fn print(
     findings: &[u8],
     told: Told,
 ) -> bool {
-    if one.len() < 1 {
-        return true;
-    }
-    put(&one[0..1])
+    put_letter(one)
         && say(fault as u64)
         && say_state(state)
         && say_sums(book, counts, findings)
+        && say_told(told)
+        && put(b"\n")
+}
+
+// The line of a call on the book of positions alone.
+pub(crate) fn print_on_book(one: &[u8], fault: u32, book: &[u8], told: Told) -> bool {
+    put_letter(one) && say(fault as u64) && say(of_bytes(book)) && say_told(told) && put(b"\n")
+}
+
+// The same with the findings buffer.
+pub(crate) fn print_judged(
+    one: &[u8],
+    fault: u32,
+    book: &[u8],
+    findings: &[u8],
+    told: Told,
+) -> bool {
+    put_letter(one)
+        && say(fault as u64)
+        && say(of_bytes(book))
+        && say(of_bytes(findings))
         && say_told(told)
         && put(b"\n")
 }

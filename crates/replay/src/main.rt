@@ -4,6 +4,7 @@
 mod call;
 mod exemption;
 mod line;
+mod position;
 mod script;
 mod setup;
 
@@ -16,22 +17,25 @@ ghost use Prim.Native.Nat.{_≤_};
 ghost use lib.ListN.{length};
 ghost use Rattle.replay.specs.Within.{Within};
 
-// A step of which `one` has all the bytes, or none where it is cut off: a call on the parts in use, or a change of
-// the setup.
+// A step of which `one` has all the bytes, or none where it is cut off: one on the book of positions, a call on the
+// parts in use, or a change of the setup. The last 8,000 bytes of the books are the book of positions.
 fn whole_step(
     one: &[u8],
     s: Setup,
     counts: &mut [u32],
     findings: &mut [u8],
-    book: &mut [u8],
+    books: &mut [u8],
     tables: &mut [u8],
 ) -> Step
     requires { ⌜ Within s × (length (now counts) ≡ 20000) × (length (now findings) ≡ 70000) ×
-        (length (now book) ≡ 20000) × (length (now tables) ≡ 8192) ⌝ }
+        (length (now books) ≡ 28000) × (length (now tables) ≡ 8192) ⌝ }
     ensures { λ r. ⌜ Within (r .setup) × (r .used ≤ length (now (one .entry))) ⌝ }
 {
+    if position::is_on_positions(one) {
+        return position::step(one, s, findings, &mut books[20000..28000]);
+    }
     if !call::is_call(one) {
-        return setup::change(one, s, counts, findings, book, tables);
+        return setup::change(one, s, counts, findings, books, tables);
     }
     if !call::within_limits(one) {
         return setup::broken(s);
@@ -45,7 +49,7 @@ fn whole_step(
         one,
         state,
         &tables[0..t],
-        &mut book[0..b],
+        &mut books[0..b],
         &mut counts[0..c],
         &mut findings[0..f],
     );
@@ -58,15 +62,15 @@ fn step(
     s: Setup,
     counts: &mut [u32],
     findings: &mut [u8],
-    book: &mut [u8],
+    books: &mut [u8],
     tables: &mut [u8],
 ) -> Step
     requires { ⌜ Within s × (length (now counts) ≡ 20000) × (length (now findings) ≡ 70000) ×
-        (length (now book) ≡ 20000) × (length (now tables) ≡ 8192) ⌝ }
+        (length (now books) ≡ 28000) × (length (now tables) ≡ 8192) ⌝ }
     ensures { λ r. ⌜ Within (r .setup) × (r .used ≤ length (now (rest .entry))) ⌝ }
 {
     let size = script::step_size(rest);
-    whole_step(&rest[0..size], s, counts, findings, book, tables)
+    whole_step(&rest[0..size], s, counts, findings, books, tables)
 }
 
 fn unprinted() {
@@ -79,14 +83,14 @@ fn bad_script() {
     }
 }
 
-fn replay(all: &[u8], counts: &mut [u32], findings: &mut [u8], book: &mut [u8], tables: &mut [u8])
+fn replay(all: &[u8], counts: &mut [u32], findings: &mut [u8], books: &mut [u8], tables: &mut [u8])
     requires { ⌜ (length (now all) ≤ 1000000) × (length (now counts) ≡ 20000) × (length (now findings) ≡ 70000) ×
-        (length (now book) ≡ 20000) × (length (now tables) ≡ 8192) ⌝ }
+        (length (now books) ≡ 28000) × (length (now tables) ≡ 8192) ⌝ }
 {
     let mut s = setup::start();
     let mut at = 0;
     while at < all.len() {
-        let next = step(&all[at..], s, counts, findings, book, tables);
+        let next = step(&all[at..], s, counts, findings, books, tables);
         if !next.printed {
             unprinted();
             return;
@@ -108,9 +112,9 @@ fn replay_script(all: &[u8]) {
     }
     let mut counts = [0u32; 20000];
     let mut findings = [0u8; 70000];
-    let mut book = [0u8; 20000];
+    let mut books = [0u8; 28000];
     let mut tables = [0u8; 8192];
-    replay(all, &mut counts, &mut findings, &mut book, &mut tables);
+    replay(all, &mut counts, &mut findings, &mut books, &mut tables);
 }
 
 // Room for a script, and for a byte more that shows one too long.

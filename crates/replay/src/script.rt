@@ -33,14 +33,14 @@ fn wanted(rest: &[u8]) -> usize
     let letter = get8(rest, 0);
     match letter {
         b'N' | b'o' | b'a' => 1,
-        b'B' => 5,
+        b'B' | b'A' => 5,
         b'F' => 6,
         b'x' => 7,
-        b'C' | b'c' | b'f' => 9,
+        b'C' | b'c' | b'f' | b'g' => 9,
         b'S' => 18,
-        b'q' => 25,
-        b'T' | b't' | b'e' => 5 + get_length(rest, 1),
-        b'b' | b'm' => 9 + get_length(rest, 5),
+        b'q' | b'r' => 25,
+        b'T' | b't' | b'e' | b'p' => 5 + get_length(rest, 1),
+        b'b' | b'm' | b'j' => 9 + get_length(rest, 5),
         _ => 0,
     }
 }

@@ -20,6 +20,8 @@ pub(crate) struct Setup {
     pub(crate) findings: usize,
     pub(crate) book: usize,
     pub(crate) tables: usize,
+    // The book of positions.
+    pub(crate) positions: usize,
 }
 
 // The bytes that a step took, 0 where it breaks the rules, whether what it prints went out, and the setup after it.
@@ -39,6 +41,7 @@ pub(crate) fn start() -> Setup
         findings: 0,
         book: 0,
         tables: 0,
+        positions: 0,
     }
 }
 
@@ -74,6 +77,7 @@ fn moved(one: &[u8], s: Setup, state: State) -> Step
         findings: s.findings,
         book: s.book,
         tables: s.tables,
+        positions: s.positions,
     };
     changed(one, next)
 }
@@ -111,7 +115,7 @@ fn fill_numbers(c: &mut [u32], v: u32) {
     }
 }
 
-fn fill_bytes(s: &mut [u8], b: u8) {
+pub(crate) fn fill_bytes(s: &mut [u8], b: u8) {
     for i in 0..s.len() {
         s[i] = b;
     }
@@ -168,7 +172,7 @@ fn set_findings(one: &[u8], s: Setup, findings: &mut [u8]) -> Step
 
 // B: n zero bytes.
 fn set_book(one: &[u8], s: Setup, book: &mut [u8]) -> Step
-    requires { ⌜ Within s × (length (now book) ≡ 20000) ⌝ }
+    requires { ⌜ Within s × (20000 ≤ length (now book)) ⌝ }
     ensures { λ r. ⌜ Within (r .setup) × (r .used ≤ length (now (one .entry))) ⌝ }
 {
     let n = get_length(one, 1);
@@ -181,18 +185,28 @@ fn set_book(one: &[u8], s: Setup, book: &mut [u8]) -> Step
     changed(one, next)
 }
 
-// b: these bytes into the book. The end is a sum of two numbers of 32 bits in 64, so it does not wrap.
-fn write_book(one: &[u8], s: Setup, book: &mut [u8]) -> Step
-    requires { ⌜ Within s × (length (now book) ≡ 20000) ⌝ }
-    ensures { λ r. ⌜ Within (r .setup) × (r .used ≤ length (now (one .entry))) ⌝ }
-{
+// The step's bytes into a book, or nothing where they go past its end. The end is a sum of two numbers of 32 bits in
+// 64, so it does not wrap.
+pub(crate) fn write_bytes(one: &[u8], book: &mut [u8]) -> bool {
     let at = get_length(one, 1);
     let end = at + get_length(one, 5);
-    if s.book < end {
-        return broken(s);
+    if book.len() < end {
+        return false;
     }
     copy(bytes_from(one, 9), &mut book[at..end]);
-    changed(one, s)
+    true
+}
+
+// b: these bytes into the book.
+fn write_book(one: &[u8], s: Setup, book: &mut [u8]) -> Step
+    requires { ⌜ Within s × (20000 ≤ length (now book)) ⌝ }
+    ensures { λ r. ⌜ Within (r .setup) × (r .used ≤ length (now (one .entry))) ⌝ }
+{
+    let size = s.book;
+    if write_bytes(one, &mut book[0..size]) {
+        return changed(one, s);
+    }
+    broken(s)
 }
 
 // T: the header with its tables.
@@ -220,7 +234,7 @@ pub(crate) fn change(
     tables: &mut [u8],
 ) -> Step
     requires { ⌜ Within s × (length (now counts) ≡ 20000) × (length (now findings) ≡ 70000) ×
-        (length (now book) ≡ 20000) × (length (now tables) ≡ 8192) ⌝ }
+        (20000 ≤ length (now book)) × (length (now tables) ≡ 8192) ⌝ }
     ensures { λ r. ⌜ Within (r .setup) × (r .used ≤ length (now (one .entry))) ⌝ }
 {
     let letter = get8(one, 0);

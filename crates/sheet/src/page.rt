@@ -1,11 +1,11 @@
 // The page: a heading for each rulebook with its clause, one for each contract type and kind, and a line an entry.
-use crate::words::put;
 use crate::words::put_instruction;
 use crate::words::put_kind;
 use crate::words::put_number;
 use crate::words::put_purpose;
 use crate::words::put_rulebook;
 use crate::words::put_sort;
+use files::output::put;
 use rules::codes::has_instruction;
 use rules::codes::has_type;
 use rules::lookup::Codes;

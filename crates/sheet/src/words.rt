@@ -1,10 +1,5 @@
 // The codes in words, printed. Each answers whether standard output took it.
-use files::output::put_all;
-use libc::STDOUT_FILENO;
-
-pub(crate) fn put(text: &[u8]) -> bool {
-    put_all(STDOUT_FILENO, text) == text.len()
-}
+use files::output::put;
 
 pub(crate) fn put_number(n: usize) -> bool {
     let mut digits = [0u8; 20];

@@ -7,14 +7,14 @@ use Rattle.replay.proofs.replay.Statement.{statement}
 use Rattle.replay.proofs.replay.Tie as tie
 
 abbrev Inv-loop : tie.InvT-loop
-Inv-loop all counts₀ findings₀ book₀ tables₀ s₀ at₀ counts findings book tables s at =
-    (at ≤ length all) × (length all ≤ 1000000) × Within s
-    × (length counts ≡ length counts₀) × (length findings ≡ length findings₀) × (length book ≡ length book₀)
+Inv-loop all counts₀ findings₀ books₀ tables₀ s₀ at₀ counts findings books tables s at =
+    ((at ≤ length all) × (length all ≤ 1000000)) × (Within s
+    × (length counts ≡ length counts₀) × (length findings ≡ length findings₀) × (length books ≡ length books₀)
     × (length tables ≡ length tables₀)
-    × (length counts ≡ 20000) × (length findings ≡ 70000) × (length book ≡ 20000) × (length tables ≡ 8192)
+    × (length counts ≡ 20000) × (length findings ≡ 70000) × (length books ≡ 28000) × (length tables ≡ 8192))
 
 abbrev μ-loop : tie.MeasureT-loop
-μ-loop all counts₀ findings₀ book₀ tables₀ s₀ at₀ counts findings book tables s at = length all - at
+μ-loop all counts₀ findings₀ books₀ tables₀ s₀ at₀ counts findings books tables s at = length all - at
 
 start-requires : tie.Need-start-requires Inv-loop μ-loop
 start-requires c κs = search needs
@@ -70,14 +70,27 @@ same-length-8 c = search needs
 returns-2 : tie.Need-returns-2 Inv-loop μ-loop
 returns-2 c = search needs
 
+-- here and below: what is known farther back than the search goes
 add-at : tie.Need-add-at Inv-loop μ-loop
-add-at c = search needs
+add-at c =
+    let bounds = c .before .before .before .before .before .before .before .before .before .before .before
+    .before .before .before .before .before .before .before .before .before .loop .inv .0 in
+    let used = c .before .before .before .before .before .before .before .before .before .before .before .before
+    .before .step .ensures .1 in
+    search needs
 
 loop-less : tie.Need-loop-less Inv-loop μ-loop
 loop-less c = search needs
 
 loop-again : tie.Need-loop-again Inv-loop μ-loop
-loop-again c = search needs
+loop-again c =
+    let kept = c .before .before .before .before .before .before .before .before .before .before .before
+    .before .before .before .before .before .before .before .before .before .before .loop .inv in
+    let early = kept .0 .0 in
+    let few = kept .0 .1 in
+    let used = c .before .before .before .before .before .before .before .before .before .before .before .before
+    .before .before .step .ensures .1 in
+    search needs
 
 same-length-9 : tie.Need-same-length-9 Inv-loop μ-loop
 same-length-9 c = search needs

@@ -2,8 +2,8 @@ use mathlib.Core.Path.{_≡_}
 use Prim.Native.Nat.{_-_, _≤_}
 use lib.ListN.{length}
 use borrow.Author.Needs.{needs}
-use Rattle.clerk.proofs.print.add_text.Statement.{statement}
-use Rattle.clerk.proofs.print.add_text.Tie as tie
+use Rattle.office.proofs.line.add_text.Statement.{statement}
+use Rattle.office.proofs.line.add_text.Tie as tie
 
 abbrev Inv-loop : tie.InvT-loop
 Inv-loop line₀ at text next₀ i₀ i-end line next i = (i ≤ length text) × (length line ≡ length line₀)

@@ -3,11 +3,8 @@ use native.Mathlib.Omega.{arith}
 use Rattle.rules.specs.Kinds.{kindsIn, mostKinds}
 use Rattle.rules.proofs.KindLaws.{kinds-most}
 use borrow.Author.Needs.{needs}
-use Rattle.newbook.proofs.main.Statement.{statement}
-use Rattle.newbook.proofs.main.Tie as tie
-
-rulebook-asked-requires : tie.Need-rulebook-asked-requires
-rulebook-asked-requires c κs = search needs
+use Rattle.newbook.proofs.make_offences.Statement.{statement}
+use Rattle.newbook.proofs.make_offences.Tie as tie
 
 kinds-of-requires : tie.Need-kinds-of-requires
 kinds-of-requires c κs = search needs
@@ -15,8 +12,8 @@ kinds-of-requires c κs = search needs
 book-size-requires : tie.Need-book-size-requires
 book-size-requires c κs = search needs
 
-sub-run : tie.Need-sub-run
-sub-run c = search needs
+sub-make-in : tie.Need-sub-make-in
+sub-make-in c = search needs
 
 part-book-start : tie.Need-part-book-start
 part-book-start c = search needs
@@ -24,26 +21,25 @@ part-book-start c = search needs
 part-book-end : tie.Need-part-book-end
 unfolding mostKinds
 part-book-end c =
-    let few = kinds-most (c .before .before .rulebook-asked .result) in
+    let few = kinds-most (c .before .before .args .rulebook) in
     let same = ap kindsIn (c .before .kinds-of .ensures) in
     let long = c .book-size .ensures in
     omega arith
 
-run-requires : tie.Need-run-requires
-run-requires c κs = search needs
+make-in-requires : tie.Need-make-in-requires
+make-in-requires c κs = search needs
 
 returns : tie.Need-returns
 returns c = search needs
 
-pub main-spec : {M : Type 1} → statement M
-main-spec =
+pub make-offences-spec : {M : Type 1} → statement M
+make-offences-spec =
     tie.close
     (tie.spec
-    rulebook-asked-requires
     kinds-of-requires
     book-size-requires
-    sub-run
+    sub-make-in
     part-book-start
     part-book-end
-    run-requires
+    make-in-requires
     returns)

@@ -1,8 +1,8 @@
 use Prim.Native.Nat.{_-_, _≤_, _/_}
 use lib.ListN.{length}
 use borrow.Author.Needs.{needs}
-use Rattle.clerk.proofs.print.print_findings.Statement.{statement}
-use Rattle.clerk.proofs.print.print_findings.Tie as tie
+use Rattle.office.proofs.print.print_findings.Statement.{statement}
+use Rattle.office.proofs.print.print_findings.Tie as tie
 
 abbrev Inv-loop : tie.InvT-loop
 Inv-loop findings found k₀ k-end k = k ≤ length findings / 8

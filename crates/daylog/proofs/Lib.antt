@@ -1,3 +1,4 @@
+pub mod HeaderLaws
 pub mod FaultLaws
 pub mod LentTables
 pub mod RecordLaws

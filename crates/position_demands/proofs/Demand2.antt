@@ -84,7 +84,7 @@ unfolding pick
 first-of true x y = refl
 first-of false x y = refl
 
-holds-step : {w : Lent} {c : Step} {g : Given} (h : History) → Holds h (w .book) → Gives w c g
+pub holds-step : {w : Lent} {c : Step} {g : Given} (h : History) → Holds h (w .book) → Gives w c g
     → Holds (recorded w c h) (g .after .book)
 unfolding recorded blankAs
 holds-step {w} h k (fresh-gives {rulebook} m) =
@@ -130,7 +130,7 @@ unfolding pick
 second-of true x y e = refl
 second-of false x y e = let q : true ≡ false = sym e in cc
 
-out-is : {w : Lent} {log : List ℕ} {g : Given} → Gives w (judgeLog log) g → numberIn (g .reply) ≡ 0
+pub out-is : {w : Lent} {log : List ℕ} {g : Given} → Gives w (judgeLog log) g → numberIn (g .reply) ≡ 0
     → g .after .out ≡ put (w .out) 0 (findings (logVerdict log) (headerOf log .date) (w .book))
 unfolding namedNumber
 out-is {w} {log} {g} (judge-gives m) z =
@@ -143,7 +143,7 @@ findings-found w cs gs r log g m z =
     out-is m z ∙ ap (put (left w gs .out) 0) (found positionShape _ _ _ (run-holds r) (logDay log) refl)
 
 -- ---- position logs
-from-pick : (t : Bool) (logs₁ logs : List (List ℕ)) (from b : List ℕ)
+pub from-pick : (t : Bool) (logs₁ logs : List (List ℕ)) (from b : List ℕ)
     → Holds (pick t (record { from = from; logs = logs₁ }) (record { from = from; logs = logs })) b
     → Holds (record { from = from; logs = pick t logs₁ logs }) b
 unfolding pick

@@ -1,3 +1,7 @@
 pub mod OffenceLaws
 pub mod Demand1
 pub mod Demand2
+pub mod JoinDays
+pub mod JoinLogs
+pub mod JoinRun
+pub mod Demand3

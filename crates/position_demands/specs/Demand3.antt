@@ -79,7 +79,7 @@ pub data Accepted : List Given → Type 0 where
 -- the joined run has full room for findings. Of the run itself: either every call was accepted, with buffers of any
 -- length; or they have full room too, and any calls may have been refused
 pub data Fair (w : Lent) (cs : List Step) (gs : List Given) : Type 0 where
-  accepted : Accepted gs → Fair w cs gs
+  all-accepted : Accepted gs → Fair w cs gs
   full-size : fullRoom ≤ length (w .out) → allRoomy cs ≡ true → Fair w cs gs
 
 pub record Run (a b rulebook : ℕ) (w w′ : Lent) (cs cs′ : List Step) (gs gs′ : List Given) : Type 0 where

@@ -4,6 +4,7 @@ use Rattle.position_demands.specs.Demand1.{AlwaysAnswered, OneAnswer, Nu
 use Rattle.position_demands.specs.Demand2.{OffencesCounted, FindingsListed, LowestId, StaysSound, NeverUnsound}
 use Rattle.position_demands.specs.Demand2.{BookOfDays, TotalsCounted, BlankCarriesNothing, SanctionsFound}
 use Rattle.position_demands.specs.Demand2.{FindingsFound, FileOfDays, LogsFound}
+use Rattle.position_demands.specs.Demand3.{EachDayJoined, NothingLost, NothingLostInLogs}
 
 pub record Promised : Type 0 where
   -- demand 1
@@ -25,3 +26,7 @@ pub record Promised : Type 0 where
   -- and over position logs
   pub file-of-days : FileOfDays
   pub logs-found : LogsFound
+  -- demand 3, of each day, over lists of calls and over position logs
+  pub each-day-joined : EachDayJoined
+  pub nothing-lost : NothingLost
+  pub nothing-lost-in-logs : NothingLostInLogs

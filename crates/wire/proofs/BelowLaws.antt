@@ -85,6 +85,17 @@ module _ (f g : ℕ → ℕ) where
   sum-cong zero h = refl
   sum-cong (suc n) h = ap₂ (λ (a b : ℕ). a + b) (sum-cong n (λ k l. h k (omega arith))) (h n (omega arith))
 
+-- a sum of sums, and of nothing
+pub sum-two : (f g h : ℕ → ℕ) (n : ℕ) → ((k : ℕ) → f k ≡ g k + h k) → sum f n ≡ sum g n + sum h n
+unfolding sum
+sum-two f g h zero e = refl
+sum-two f g h (suc n) e = omega (arith, sum-two f g h n e, e n)
+
+pub sum-none : (f : ℕ → ℕ) (n : ℕ) → ((k : ℕ) → f k ≡ 0) → sum f n ≡ 0
+unfolding sum
+sum-none f zero e = refl
+sum-none f (suc n) e = omega (arith, sum-none f n e, e n)
+
 -- a count is a sum of ones
 pub count-sum : (p : ℕ → Bool) (n : ℕ) → sum (λ k. pick (p k) 1 0) n ≡ count p n
 unfolding sum count

@@ -4,6 +4,7 @@ use Rattle.position_demands.proofs.Demand1.{always-answered, one-answer
 use Rattle.position_demands.proofs.Demand2.{findings-listed, stays-sound, never-unsound, book-of-days}
 use Rattle.position_demands.proofs.Demand2.{totals-counted, blank-carries-nothing, sanctions-found}
 use Rattle.position_demands.proofs.Demand2.{findings-found, file-of-days, logs-found}
+use Rattle.position_demands.proofs.Demand3.{each-day-joined, nothing-lost, nothing-lost-in-logs}
 use Rattle.position_demands.proofs.promised.Statement.{statement}
 use Rattle.position_demands.proofs.promised.Tie as tie
 
@@ -25,6 +26,9 @@ returns c = record {
   findings-found = findings-found;
   file-of-days = file-of-days;
   logs-found = logs-found;
+  each-day-joined = each-day-joined;
+  nothing-lost = nothing-lost;
+  nothing-lost-in-logs = nothing-lost-in-logs;
 }
 
 pub promised-spec : {M : Type 1} → statement M

@@ -18,10 +18,10 @@ use Rattle.tables.specs.declared.contracts.Found.{Found}
 use Rattle.tables.specs.declared.contracts.Found.the-variants.{At, Nothing}
 use Rattle.daylog.specs.declared.record.Record.{Record}
 use Rattle.tables.specs.Entries.{entries}
-use Rattle.tables.specs.Accounts.{accountsGood}
+use Rattle.tables.specs.Accounts.{accountsGood, isIn, groupIn}
 use Rattle.tables.specs.Contracts.{contractAt, contractPlace, foundContract}
 use Rattle.daylog.specs.Records.{recordGood}
-use Rattle.tables.specs.Tables.{Tables, tablesIn, accountOf, contractOf, hasAccount, hasContract, groupOf}
+use Rattle.tables.specs.Tables.{Tables, tablesIn, contractOf, hasAccount, hasContract, groupOf}
 use Rattle.tables.specs.Way.{foundAccount}
 use Rattle.tables.proofs.Search.{found-length, found-group}
 use Rattle.counts.specs.declared.weigh.Plan.{Plan}
@@ -79,17 +79,17 @@ module _ (text : Text) (contracts accounts : List ℕ) where
       (is : e ≡ foundAccount accounts number) where
     -- an empty part is no entry
     pub no-account : length e ≡ 0 → hasAccount t number ≡ false
-    unfolding hasAccount accountOf tablesIn
+    unfolding hasAccount isIn tablesIn
     no-account z = not-true _ (sym (found-length accounts good number) ∙ eq-eqb _ 0 (ap length (sym is) ∙ z))
 
     -- and any other is the account's
     pub an-account : (length e ≡ 0 → ⊥) → hasAccount t number ≡ true
-    unfolding hasAccount accountOf tablesIn
+    unfolding hasAccount isIn tablesIn
     an-account some = not-false _ (sym (found-length accounts good number) ∙ ne-eqb _ 0 (λ z. some (ap length is ∙ z)))
 
     -- whose byte 4 is the group
     pub its-group : (length e ≡ 0 → ⊥) → getD e 4 0 ≡ groupOf t number
-    unfolding groupOf hasAccount accountOf tablesIn
+    unfolding groupOf groupIn hasAccount isIn tablesIn
     its-group some =
         ap (λ s. getD s 4 0) is ∙ found-group accounts good number (ltb-true _ _ (an-account some))
         ∙ pick-yes _ _ _ _ (an-account some) refl

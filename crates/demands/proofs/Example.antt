@@ -13,14 +13,14 @@ use Rattle.rules.specs.Ladders.{family, rung, sanction}
 use Rattle.rules.specs.Kinds.{kindsOf, kindsIn, firstKind}
 use Rattle.book.specs.Shape.{dayShape}
 use Rattle.book.specs.Layout.{headOf, bookAs}
-use Rattle.tables.specs.Accounts.{accountPlace, hasMember}
+use Rattle.tables.specs.Accounts.{accountPlace, hasMember, isIn, groupIn}
 use Rattle.tables.specs.Contracts.{contractPlace}
-use Rattle.tables.specs.Tables.{accountOf, contractOf, hasAccount, groupOf, memberOn}
+use Rattle.tables.specs.Tables.{contractOf, groupOf, memberOn}
+use Rattle.joining.specs.Joining.{joined}
 use Rattle.counts.specs.Counting.{planFor, planOf, countsAs, countsFor}
 use Rattle.verdict.specs.Verdict.{offends}
 use Rattle.years.specs.Days.{howMany, offenceOn, offenceDays, carried, totalOver, blankAs}
 use Rattle.years.specs.Restrictions.{sanctionOn, sanctions}
-use Rattle.years.specs.Joined.{joined}
 use Rattle.desk.specs.Offences.{familyOf, reachedAt, lowest, lowestOn, verdictOn}
 use Rattle.demands.specs.Counts.{timesOf, timesOn}
 use Rattle.demands.specs.Join.{Joined}
@@ -40,9 +40,7 @@ tables-join = record {
   contracts = refl;
   contract = λ k. refl;
   accounts = refl;
-  number = λ k. refl;
-  kind = λ k. refl;
-  group = λ k. group-joins (eqb k 0);
+  account = record { number = λ k. refl; kind = λ k. refl; group = λ k. group-joins (eqb k 0) };
 }
 
 -- the four numbers
@@ -50,9 +48,9 @@ numbers : (threeAlone 1 (daysWith 1) ≡ 1) × (threeAlone 2 (daysWith 2) ≡ 0)
     × (threeOrFive 1 (daysWith 1) ≡ 1) × (threeOrFive 2 (daysWith 2) ≡ 1)
 unfolding threeAlone threeOrFive daysWith tradingDay tablesWith ownTrade sanctions sanctionOn offenceDays offenceOn
     totalOver carried blankAs bookAs headOf le bytes offends verdictOn dayShape lowestOn lowest reachedAt timesOn
-    timesOf howMany memberOn hasMember familyOf
-    countsFor countsAs planOf planFor groupOf hasAccount contractOf accountOf accountPlace contractPlace kindsOf
-    kindsIn firstKind sanction rung family enough exempt known byThree first some every pick
+    timesOf howMany memberOn hasMember familyOf countsFor countsAs planOf planFor groupOf groupIn contractOf isIn
+    accountPlace contractPlace kindsOf kindsIn firstKind sanction rung family enough exempt known byThree first some
+    every pick
 numbers = (refl, refl, refl, refl)
 
 pub why-three-or-five : WhyThreeOrFive

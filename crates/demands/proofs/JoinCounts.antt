@@ -5,25 +5,26 @@ use mathlib.Core.Bool.{Bool, true, false, _&&_, _||_, not, and-false}
 use mathlib.Core.List.{List}
 use Prim.Native.Nat.{ℕ, zero, suc, _+_, _≤_}
 use native.Mathlib.Omega.{arith}
-use borrow.Author.Tests.{eqb-true, eqb-false, eq-eqb, ne-eqb, leb-true, le-leb, lt-leb}
+use borrow.Author.Tests.{eqb-true, eq-eqb, ne-eqb, leb-true, le-leb, lt-leb}
 use lib.Dec.{leb, ltb, eqb}
 use Rattle.wire.specs.Choice.{pick}
 use Rattle.wire.specs.Below.{some, first}
-use Rattle.wire.proofs.ChoiceLaws.{pick-yes, pick-no, and-left, and-right, and-yes, and-no, and-no-right, same-test}
-use Rattle.wire.proofs.BelowLaws.{some-cong, some-none, some-more, first-cong}
+use Rattle.wire.proofs.ChoiceLaws.{and-left, and-right, and-yes, and-no, and-no-right, same-test}
+use Rattle.wire.proofs.BelowLaws.{some-none, some-more, first-cong}
 use Rattle.rules.specs.declared.measure.Times.{Times}
 use Rattle.rules.specs.declared.text.Text.{Text}
 use Rattle.rules.specs.Measure.{times, enough, reached}
 use Rattle.tables.specs.declared.contracts.Contract.{Contract}
 use Rattle.daylog.specs.declared.record.Record.{Record}
-use Rattle.tables.specs.Accounts.{accountPlace, hasMember}
+use Rattle.tables.specs.Accounts.{isIn, groupIn, hasMember}
 use Rattle.tables.specs.Contracts.{contractPlace}
-use Rattle.tables.specs.Tables.{Tables, accountOf, contractOf, hasAccount, hasContract, groupOf, memberOn}
+use Rattle.tables.specs.Tables.{Tables, contractOf, hasAccount, hasContract, groupOf, memberOn}
+use Rattle.joining.specs.Joining.{joined}
+use Rattle.joining.proofs.JoiningLaws.{not-both, join-b, join-a, join-other, in-joined, group-joined, member-other}
 use Rattle.counts.specs.declared.weigh.Plan.{Plan}
 use Rattle.counts.specs.Counting.{exempt1, exempt2, planFor, planOf, countsAs, countsFor, fieldsFault}
 use Rattle.desk.specs.Offences.{familyOf}
 use Rattle.demands.specs.Counts.{timesOf, reachesOn, offence}
-use Rattle.years.specs.Joined.{joined}
 use Rattle.demands.specs.Join.{Joined, betweenFor, between}
 use Rattle.years.proofs.ManyLaws.{many-cong, many-none, many-two, many-three}
 
@@ -43,15 +44,6 @@ both-same m n p = same-test _ _ there back
         let x = and-left (eqb m p) (eqb n p) t in
         let y : n ≡ p = eqb-true n p (and-right (eqb m p) (eqb n p) t) in
         and-yes (eqb m n) (eqb m p) (eq-eqb m n (eqb-true m p x ∙ sym y)) x
-
--- a number is not two others at once
-pub not-both : (g a b : ℕ) → (a ≡ b → ⊥) → eqb g a && eqb g b ≡ false
-not-both g a b n = go (eqb g a) (eqb g b) refl refl
-  where
-    go : (x y : Bool) → eqb g a ≡ x → eqb g b ≡ y → x && y ≡ false
-    go true true p q = absurd (n (sym (eqb-true g a p) ∙ eqb-true g b q))
-    go true false p q = refl
-    go false y p q = refl
 
 middle-no : (w x c : Bool) → x ≡ false → w && x && c ≡ false
 middle-no w x c e = rw (e, and-false w)
@@ -147,64 +139,32 @@ reached-none n number z = go (leb 1 (number .0)) refl
         and-no-right (leb 1 (number .0)) (leb (number .0) n) (lt-leb (number .0) n (omega arith))
     go false e = and-no (leb 1 (number .0)) (leb (number .0) n) e
 
--- ---- general laws: the group after a join
+-- ---- general laws: two groups after a join
 module _ (a b : ℕ) (apart : a ≡ b → ⊥) where
-  moved : (g : ℕ) → g ≡ a → joined a b g ≡ b
-  moved g e = sym (pick-yes (eqb g a) b b g (eq-eqb g a e) refl)
-
-  stays : (g : ℕ) → (g ≡ a → ⊥) → joined a b g ≡ g
-  stays g n = sym (pick-no (eqb g a) g b g (ne-eqb g a n) refl)
-
-  -- what is said of a group that is moved and of one that stays
-  by-group : (g : ℕ) (P : Type 0) → (g ≡ a → P) → ((g ≡ a → ⊥) → P) → P
-  by-group g P yes-a no-a = go (eqb g a) refl
-    where
-      go : (t : Bool) → eqb g a ≡ t → P
-      go true e = yes-a (eqb-true g a e)
-      go false e = no-a (eqb-false g a e)
-
-  pub join-b : (g : ℕ) → eqb (joined a b g) b ≡ eqb g a || eqb g b
-  join-b g =
-      by-group g (eqb (joined a b g) b ≡ eqb g a || eqb g b)
-      (λ e. eq-eqb _ b (moved g e) ∙ ap (λ (t : Bool). t || eqb g b) (sym (eq-eqb g a e)))
-      (λ n. ap (λ (m : ℕ). eqb m b) (stays g n) ∙ ap (λ (t : Bool). t || eqb g b) (sym (ne-eqb g a n)))
-
-  pub join-a : (g : ℕ) → eqb (joined a b g) a ≡ false
-  join-a g =
-      by-group g (eqb (joined a b g) a ≡ false)
-      (λ e. ne-eqb _ a (λ q. apart (sym q ∙ moved g e)))
-      (λ n. ne-eqb _ a (λ q. n (sym (stays g n) ∙ q)))
-
-  pub join-other : (c g : ℕ) → (c ≡ a → ⊥) → (c ≡ b → ⊥) → eqb (joined a b g) c ≡ eqb g c
-  join-other c g na nb =
-      by-group g (eqb (joined a b g) c ≡ eqb g c)
-      (λ e. ne-eqb _ c (λ q. nb (sym q ∙ moved g e)) ∙ sym (ne-eqb g c (λ q. na (sym q ∙ e))))
-      (λ n. ap (λ (m : ℕ). eqb m c) (stays g n))
-
   -- two groups of which the first is b after the join: both were a, or both b, or one each
   pub join-pair : (g h : ℕ)
       → pick (eqb (joined a b g) (joined a b h) && eqb (joined a b g) b) 1 0
       ≡ pick (eqb g h && eqb g a) 1 0 + pick (eqb g h && eqb g b) 1 0 + pick
       ((eqb g a && eqb h b) || (eqb g b && eqb h a)) 1 0
   join-pair g h =
-      rw (both-same (joined a b g) (joined a b h) b, both-same g h a, both-same g h b, join-b g, join-b h)
+      rw (
+        both-same (joined a b g) (joined a b h) b,
+        both-same g h a,
+        both-same g h b,
+        join-b a b apart g,
+        join-b a b apart h,
+      )
       (pair-three (eqb g a) (eqb g b) (eqb h a) (eqb h b) (not-both g a b apart) (not-both h a b apart))
 
   -- two groups of which the first is another after the join
   pub join-pair-other : (c g h : ℕ) → (c ≡ a → ⊥) → (c ≡ b → ⊥) → eqb (joined a b g) (joined a b h)
       && eqb (joined a b g) c ≡ eqb g h && eqb g c
   join-pair-other c g h na nb =
-      both-same (joined a b g) (joined a b h) c ∙ ap₂ (λ (s t : Bool). s && t) (join-other c g na nb)
-      (join-other c h na nb) ∙ sym (both-same g h c)
+      both-same (joined a b g) (joined a b h) c ∙ ap₂ (λ (s t : Bool). s && t) (join-other a b apart c g na nb)
+      (join-other a b apart c h na nb) ∙ sym (both-same g h c)
 
 -- ---- the tables after the join
 module _ (a b : ℕ) (t t′ : Tables) (j : Joined a b t t′) (some-a : 1 ≤ a) (apart : a ≡ b → ⊥) where
-  account-joined : (n : ℕ) → accountOf t′ n ≡ accountOf t n
-  unfolding accountOf accountPlace
-  account-joined n =
-      ap (first (λ k. eqb (t′ .account k .number) n)) (j .accounts)
-      ∙ first-cong _ _ (t .accounts) (λ k l. ap (λ (m : ℕ). eqb m n) (j .number k))
-
   contract-joined : (n : ℕ) → contractOf t′ n ≡ contractOf t n
   unfolding contractOf contractPlace
   contract-joined n =
@@ -213,23 +173,18 @@ module _ (a b : ℕ) (t t′ : Tables) (j : Joined a b t t′) (some-a : 1 ≤ a
 
   has-account-joined : (n : ℕ) → hasAccount t′ n ≡ hasAccount t n
   unfolding hasAccount
-  has-account-joined n = ap₂ (λ (x y : ℕ). ltb x y) (account-joined n) (j .accounts)
+  has-account-joined n =
+      in-joined (j .account) (t′ .accounts) n ∙ ap (λ (m : ℕ). isIn (t .account) m n) (j .accounts)
 
   has-contract-joined : (n : ℕ) → hasContract t′ n ≡ hasContract t n
   unfolding hasContract
   has-contract-joined n = ap₂ (λ (x y : ℕ). ltb x y) (contract-joined n) (j .contracts)
 
-  joined-pick : (s : Bool) (g : ℕ) → pick s (joined a b g) 0 ≡ joined a b (pick s g 0)
-  unfolding pick
-  joined-pick true g = refl
-  joined-pick false g = sym (stays a b apart 0 (λ e. omega arith))
-
-  -- an account that is not there has group 0, which is not a
-  group-joined : (n : ℕ) → groupOf t′ n ≡ joined a b (groupOf t n)
+  groups-joined : (n : ℕ) → groupOf t′ n ≡ joined a b (groupOf t n)
   unfolding groupOf
-  group-joined n =
-      rw (has-account-joined n, account-joined n, j .group (accountOf t n))
-      (joined-pick (hasAccount t n) (t .account (accountOf t n) .group))
+  groups-joined n =
+      group-joined (j .account) (t′ .accounts) some-a n
+      ∙ ap (λ (m : ℕ). joined a b (groupIn (t .account) m n)) (j .accounts)
 
   pub fault-joined : (r : Record) → fieldsFault t′ r ≡ fieldsFault t r
   unfolding fieldsFault
@@ -237,13 +192,11 @@ module _ (a b : ℕ) (t t′ : Tables) (j : Joined a b t t′) (some-a : 1 ≤ a
       rw (has-contract-joined (r .contract), has-account-joined (r .first), has-account-joined (r .second), j .text)
       refl
 
-  pub member-other : (g : ℕ) → (g ≡ a → ⊥) → (g ≡ b → ⊥) → memberOn t′ g ≡ memberOn t g
-  unfolding memberOn hasMember
-  member-other g na nb =
-      ap (some (λ k. eqb (t′ .account k .group) g && eqb (t′ .account k .kind) 2)) (j .accounts)
-      ∙ some-cong _ _ (t .accounts)
-      (λ k. ap₂ (λ (x y : Bool). x && y) (ap (λ (m : ℕ). eqb m g) (j .group k) ∙ join-other a b apart g
-      (t .account k .group) na nb) (ap (λ (m : ℕ). eqb m 2) (j .kind k)))
+  pub members-other : (g : ℕ) → (g ≡ a → ⊥) → (g ≡ b → ⊥) → memberOn t′ g ≡ memberOn t g
+  unfolding memberOn
+  members-other g na nb =
+      member-other (j .account) (t′ .accounts) apart g na nb
+      ∙ ap (λ (m : ℕ). hasMember (t .account) m g) (j .accounts)
 
   pub family-joined : (place : ℕ) → familyOf t′ place ≡ familyOf t place
   unfolding familyOf
@@ -269,8 +222,8 @@ module _ (a b : ℕ) (t t′ : Tables) (j : Joined a b t t′) (some-a : 1 ≤ a
     plan-joined =
         rw (
           contract-joined (r .contract),
-          group-joined (r .first),
-          group-joined
+          groups-joined (r .first),
+          groups-joined
               (r .second),
           j .contract place-of,
           j .text,

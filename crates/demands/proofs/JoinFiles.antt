@@ -1,21 +1,22 @@
 -- A whole file as the clerk reads it, with group a joined to group b in its tables: its tables are the file's,
 -- joined, and its rows are the file's. Assumes nothing.
-use mathlib.Core.Path.{_≡_, refl, sym, ap, ap₂, _∙_}
-use mathlib.Core.List.{List, [], _∷_}
-use Prim.Native.Nat.{ℕ, zero, suc, _+_, _*_, _≤_}
+use mathlib.Core.Path.{_≡_, sym, ap, ap₂, _∙_}
+use mathlib.Core.List.{List}
+use Prim.Native.Nat.{ℕ, _+_, _*_, _≤_}
 use native.Mathlib.Omega.{arith}
-use lib.ListN.{length, take, drop, length-take, length-drop}
-use lib.Seq.{getD-take, getD-drop, ext-getD}
-use Rattle.wire.specs.Choice.{pick}
+use lib.ListN.{length, take, drop, length-take}
+use lib.Seq.{getD-take}
 use Rattle.wire.proofs.ChoiceLaws.{pick-least}
 use Rattle.daylog.specs.declared.header.Header.{Header}
 use Rattle.daylog.specs.Header.{headerOf, logFault}
 use Rattle.daylog.specs.Records.{recordLength}
 use Rattle.daylog.specs.Rows.{frontSize, front, rowSize, pieces, rowsOf}
 use Rattle.daylog.proofs.FaultLaws.{log-sound}
-use Rattle.years.specs.Joined.{joined}
-use Rattle.demands.specs.Join.{groupByte, byPlace, joinLog}
-use Rattle.demands.proofs.JoinTables.{header-same, join-length, past, header-stands}
+use Rattle.joining.specs.Joining.{joinBytes}
+use Rattle.joining.proofs.JoiningLaws.{join-take, rest-stands}
+use Rattle.demands.specs.Join.{accountsFrom, accountsTo, joinLog}
+use Rattle.daylog.proofs.HeaderLaws.{header-same}
+use Rattle.demands.proofs.JoinTables.{length-stands, header-stands}
 
 -- ---- the front of a file has its header
 size-least : (log : List ℕ) → 16 ≤ frontSize log
@@ -26,13 +27,6 @@ pub front-head : (log : List ℕ) → headerOf (front log) ≡ headerOf log
 front-head log = header-same (front log) log (λ i h. getD-take (frontSize log) log i 0 (omega (arith, size-least log)))
 
 -- ---- the front of a joined file
--- a change of every byte by its place, of the first n bytes
-by-take : (f : ℕ → ℕ → ℕ) (n i : ℕ) (s : List ℕ) → take n (byPlace f i s) ≡ byPlace f i (take n s)
-unfolding byPlace
-by-take f zero i s = refl
-by-take f (suc n) i [] = refl
-by-take f (suc n) i (x ∷ xs) = ap (λ (l : List ℕ). f i x ∷ l) (by-take f n (suc i) xs)
-
 module _ (a b : ℕ) (log : List ℕ) (some : 1 ≤ a) where
   size-joined : frontSize (joinLog a b log) ≡ frontSize log
   unfolding frontSize
@@ -42,17 +36,14 @@ module _ (a b : ℕ) (log : List ℕ) (some : 1 ≤ a) where
   unfolding joinLog
   front-joined =
       ap (λ (n : ℕ). take n (joinLog a b log)) size-joined
-      ∙ by-take (λ i x. pick (groupByte (headerOf log) i) (joined a b x) x) (frontSize log) 0 log
-      ∙ ap (λ (h : Header). byPlace (λ i x. pick (groupByte h i) (joined a b x) x) 0 (front log))
-      (sym (front-head log))
+      ∙ join-take a b _ _ (frontSize log) log
+      ∙ ap (λ (h : Header). joinBytes a b (accountsFrom h) (accountsTo h) (front log)) (sym (front-head log))
 
   -- ---- and what comes after it
   after-joined : (n : ℕ) → 16 + 8 * headerOf log .contracts + 8 * headerOf log .accounts ≤ n
       → drop n (joinLog a b log) ≡ drop n log
-  after-joined n h =
-      let j = joinLog a b log in
-      ext-getD 0 (drop n j) (drop n log) (omega (arith, length-drop n j, length-drop n log, join-length a b log some))
-      (λ i l. getD-drop n j i 0 ∙ past a b log some (n + i) (omega arith) ∙ sym (getD-drop n log i 0))
+  unfolding joinLog
+  after-joined n h = rest-stands a b _ _ log some n h
 
   pub rows-joined : logFault (front log) ≡ 0 → rowsOf (joinLog a b log) ≡ rowsOf log
   rows-joined e =
@@ -62,5 +53,5 @@ module _ (a b : ℕ) (log : List ℕ) (some : 1 ≤ a) where
       let j = joinLog a b log in
       ap (λ (h : Header). pieces (recordLength (h .version)) (length j) (drop (frontSize j) j))
       (header-stands a b log some)
-      ∙ ap₂ (pieces (rowSize log)) (join-length a b log some)
+      ∙ ap₂ (pieces (rowSize log)) (length-stands a b log some)
       (ap (λ (m : ℕ). drop m (joinLog a b log)) size-joined ∙ after-joined n (omega (arith, whole, length-take n log)))

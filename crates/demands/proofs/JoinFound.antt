@@ -23,7 +23,7 @@ use Rattle.desk.specs.Offences.{kindsOn, familyOf, reachedAt, lowest, lowestOn,
 use Rattle.demands.specs.Counts.{timesOf, timesOn, offence, dayVerdict}
 use Rattle.demands.specs.Join.{Joined}
 use Rattle.demands.proofs.ListedLaws.{offends-is}
-use Rattle.demands.proofs.JoinCounts.{times-other, offence-a, offence-b, offence-none, member-other}
+use Rattle.demands.proofs.JoinCounts.{times-other, offence-a, offence-b, offence-none, members-other}
 use Rattle.demands.proofs.JoinCounts.{family-joined}
 
 -- a joined day has the kinds of the day
@@ -112,7 +112,7 @@ module _ (a b : ℕ) (two : Two a b) (t t′ : Tables) (j : Joined a b t t′) (
         ∙ ap (test (familyOf t k) (timesOn t rs l k)) (j .text))
 
     member-same : memberOn t′ (groupAt (kindsOn t) l) ≡ memberOn t (groupAt (kindsOn t) l)
-    member-same = member-other a b t t′ j (two .first-a) (two .differ) (groupBy (t .text)) (o .not-a) (o .not-b)
+    member-same = members-other a b t t′ j (two .first-a) (two .differ) (groupBy (t .text)) (o .not-a) (o .not-b)
 
     id-same : t′ .contract (lowestOn t′ (timesOn t′ rs) l) .id ≡ t .contract (lowestOn t (timesOn t rs) l) .id
     id-same = ap (λ (k : ℕ). t′ .contract k .id) lowest-same ∙ ap (λ e. e .id)

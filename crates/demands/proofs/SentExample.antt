@@ -11,9 +11,9 @@ use Rattle.wire.specs.Below.{first}
 use Rattle.wire.specs.Bytes.{le, bytes}
 use Rattle.wire.specs.Buffers.{put}
 use Rattle.wire.proofs.BufferLaws.{length-put, getD-put-before, getD-put-after}
-use Rattle.tables.specs.Accounts.{accountAt, accountPlace}
+use Rattle.tables.specs.Accounts.{accountAt, accountPlace, isIn}
 use Rattle.tables.specs.Contracts.{contractAt, contractPlace}
-use Rattle.tables.specs.Tables.{tablesIn, accountOf, contractOf, hasAccount, hasContract}
+use Rattle.tables.specs.Tables.{tablesIn, contractOf, hasAccount, hasContract}
 use Rattle.daylog.specs.Brokers.{brokersOf, brokersWrong}
 use Rattle.daylog.specs.Header.{headerOf, isVersion, tablesOf}
 use Rattle.daylog.specs.Records.{recordLength, recordOf, recordGood, endGood}
@@ -27,9 +27,9 @@ use Rattle.demands.specs.SentExample.{sentTables, sentBy, cancelRow, sen
 
 numbered : (p : Paper) → numbersOn (sentOpened p) sentSteps ≡ 1 ∷ 11 ∷ 11 ∷ 11 ∷ 11 ∷ 0 ∷ 0 ∷ 1 ∷ 11 ∷ 15 ∷ []
 unfolding sentOpened sentSteps sentTables sentBy cancelRow workedTables tablesFor tradeOn endRow put bytes numbersOn
-    rules rule takeRuled takeNumber endRuled endRefusal rowFault endGood recordFault brokersWrong brokersOf
-    fieldsFault hasContract hasAccount contractOf accountOf contractPlace accountPlace recordLength recordGood
-    recordOf answered tablesOf tablesIn headerOf contractAt accountAt first le orElse pick
+    rules rule takeRuled takeNumber endRuled endRefusal rowFault endGood recordFault brokersWrong brokersOf fieldsFault
+    hasContract hasAccount contractOf isIn contractPlace accountPlace recordLength recordGood recordOf answered
+    tablesOf tablesIn headerOf contractAt accountAt first le orElse pick
 numbered p = refl
 
 room : 6 ≤ length workedTables

@@ -14,9 +14,9 @@ use Rattle.rules.specs.Exemption.{known, exempt}
 use Rattle.rules.specs.Measure.{enough}
 use Rattle.rules.specs.Ladders.{family, rung}
 use Rattle.rules.specs.Kinds.{kindsOf, kindsIn, firstKind}
-use Rattle.tables.specs.Accounts.{accountPlace}
+use Rattle.tables.specs.Accounts.{accountPlace, isIn, groupIn}
 use Rattle.tables.specs.Contracts.{contractPlace}
-use Rattle.tables.specs.Tables.{accountOf, contractOf, hasAccount, groupOf}
+use Rattle.tables.specs.Tables.{contractOf, groupOf}
 use Rattle.counts.specs.Counting.{planFor, planOf, countsAs, countsFor}
 use Rattle.desk.specs.Offences.{familyOf}
 use Rattle.years.specs.Days.{howMany}
@@ -51,9 +51,9 @@ unfolding starred allHold
 larges = refl
 
 offences : allHold (part 7 14) ≡ true
-unfolding starred allHold pick every some first byThree known exempt enough family accountOf contractOf hasAccount
-    groupOf accountPlace contractPlace planFor planOf countsAs countsFor familyOf howMany timesOf reachesOn offence
-    dayWith trade cancel selfTrades cancels cancelsOnTwo largeCancels
+unfolding starred allHold pick every some first byThree known exempt enough family isIn contractOf groupOf groupIn
+    accountPlace contractPlace planFor planOf countsAs countsFor familyOf howMany timesOf reachesOn offence dayWith
+    trade cancel selfTrades cancels cancelsOnTwo largeCancels
 offences = refl
 
 dates : allHold (part 21 2) ≡ true
@@ -71,8 +71,8 @@ unfolding starred allHold pick rung
 rungs = refl
 
 records : allHold (drop 29 starred) ≡ true
-unfolding starred allHold pick first known exempt accountOf contractOf hasAccount groupOf accountPlace contractPlace
-    planFor planOf countsAs countsFor dayWith cancel cancelCounts
+unfolding starred allHold pick first known exempt isIn contractOf groupOf groupIn accountPlace contractPlace planFor
+    planOf countsAs countsFor dayWith cancel cancelCounts
 records = refl
 
 pub starred-hold : Starred

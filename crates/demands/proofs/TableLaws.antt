@@ -17,7 +17,8 @@ use Rattle.daylog.specs.declared.record.Record.{Record}
 use Rattle.tables.proofs.EntryLaws.{group-at}
 use Rattle.daylog.specs.Header.{headerOf, accountsPart, logFault, tablesOf}
 use Rattle.daylog.specs.Records.{recordOf}
-use Rattle.tables.specs.Tables.{Tables, tablesIn, accountOf, contractOf, hasAccount, hasContract, groupOf}
+use Rattle.tables.specs.Accounts.{accountPlace, isIn, groupIn}
+use Rattle.tables.specs.Tables.{Tables, tablesIn, contractOf, hasAccount, hasContract, groupOf}
 use Rattle.daylog.proofs.FaultLaws.{log-sound}
 use Rattle.places.specs.Places.{HasCell}
 use Rattle.counts.specs.Counting.{planFor, planOf, countsFor, countsAs, fieldsFault}
@@ -40,9 +41,13 @@ known-tables log e =
     }
 
 -- ---- a record that the tables have
+-- the place of an account, past the table's end where it is not there
+abbrev placeOf : Tables → ℕ → ℕ
+placeOf t number = accountPlace (t .account) (t .accounts) number
+
 pub record Has (t : Tables) (r : Record) : Type 0 where
   pub contract : contractOf t (r .contract) < t .contracts
-  pub account : accountOf t (r .first) < t .accounts
+  pub account : placeOf t (r .first) < t .accounts
 
 -- where nothing is wrong with a record, nothing is wrong with its fields
 pub fields-fine : (version : ℕ) (t : Tables) (row : List ℕ) → recordFault version t row ≡ 0
@@ -51,17 +56,17 @@ unfolding recordFault
 fields-fine version t row e = pick-zero _ 11 _ (lit< tt) e .1
 
 pub has-record : (t : Tables) (r : Record) → fieldsFault t r ≡ 0 → Has t r
-unfolding fieldsFault hasContract hasAccount
+unfolding fieldsFault hasContract hasAccount isIn
 has-record t r e =
     let e1 = pick-zero _ 11 _ (lit< tt) e in
     let e2 = pick-zero _ 12 _ (lit< tt) (e1 .1) in
     let e3 = pick-zero _ 13 _ (lit< tt) (e2 .1) in
     record { contract = ltb-true _ _ (not-false _ (e2 .0)); account = ltb-true _ _ (not-false _ (e3 .0)) }
 
-pub group-is : (t : Tables) (number : ℕ) → accountOf t number < t .accounts → groupOf t number
-    ≡ t .account (accountOf t number) .group
-unfolding groupOf hasAccount
-group-is t number h = sym (pick-yes _ _ _ _ (lt-ltb (accountOf t number) (t .accounts) h) refl)
+pub group-is : (t : Tables) (number : ℕ) → placeOf t number < t .accounts → groupOf t number
+    ≡ t .account (placeOf t number) .group
+unfolding groupOf groupIn isIn
+group-is t number h = sym (pick-yes _ _ _ _ (lt-ltb (placeOf t number) (t .accounts) h) refl)
 
 -- kinds that begin at 1 have the three as which a record counts
 three-kinds : (k : Kinds) → firstKind k ≡ 1 → 3 ≤ kindsIn k
@@ -78,8 +83,8 @@ placed t o r h k low high =
     let g = group-is t (r .first) (h .account) in
     let begin = kinds-begin (t .text .rulebook) in record {
       row = record {
-        first-group = omega (arith, o .first-group (accountOf t (r .first)) (h .account));
-        last-group = omega (arith, o .last-group (accountOf t (r .first)) (h .account));
+        first-group = omega (arith, o .first-group (placeOf t (r .first)) (h .account));
+        last-group = omega (arith, o .last-group (placeOf t (r .first)) (h .account));
         first-kind = omega arith;
         last-kind = omega (arith, three-kinds (kindsOn t) begin);
       };

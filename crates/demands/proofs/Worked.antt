@@ -33,12 +33,12 @@ use Rattle.book.specs.Ask.{askFaultAs, askAnswerAs}
 use Rattle.posting.specs.Raise.{nextTotal}
 use Rattle.daylog.specs.declared.record.Record.{Record}
 use Rattle.tables.specs.Contracts.{contractAt, idBefore, contractsGood, contractPlace}
-use Rattle.tables.specs.Accounts.{accountAt, numberBefore, accountsGood, accountPlace, hasMember}
+use Rattle.tables.specs.Accounts.{accountAt, numberBefore, accountsGood, accountPlace, hasMember, isIn, groupIn}
 use Rattle.daylog.specs.Header.{headerOf, entriesFault, headFault, logFault, tablesOf}
 use Rattle.daylog.specs.Brokers.{brokersWrong}
 use Rattle.daylog.specs.Records.{recordLength, recordOf, recordGood, endGood}
 use Rattle.daylog.specs.Rows.{rowSize}
-use Rattle.tables.specs.Tables.{Tables, tablesIn, accountOf, contractOf, hasAccount, hasContract, groupOf}
+use Rattle.tables.specs.Tables.{Tables, tablesIn, contractOf, hasAccount, hasContract, groupOf}
 use Rattle.tables.specs.Tables.{memberOn}
 use Rattle.verdict.specs.Verdict.{Verdict, offends, foundCount, finding, totalAfter, sanctionAt, foundAt, findings}
 use Rattle.verdict.specs.Verdict.{bookAfter}
@@ -97,9 +97,8 @@ trades-go : (book out : List ℕ) (len : ℕ)
     → Goes (paper (during workedTables []) book out len) workedTrades (0 ∷ 0 ∷ 0 ∷ 0 ∷ 0 ∷ []) (0 ∷ 0 ∷ 0 ∷ 0 ∷ 0 ∷ [])
     (paper (during workedTables workedRecords) book out len)
 unfolding workedTrades workedRecords workedTables tablesFor tradeOn numbersOn rules paperAfter rule takeRuled
-    takeNumber recordFault brokersWrong fieldsFault hasContract hasAccount contractOf accountOf contractPlace
-    accountPlace recordLength recordGood recordOf answered tablesOf tablesIn headerOf contractAt accountAt first le
-    orElse pick
+    takeNumber recordFault brokersWrong fieldsFault hasContract hasAccount contractOf isIn contractPlace accountPlace
+    recordLength recordGood recordOf answered tablesOf tablesIn headerOf contractAt accountAt first le orElse pick
 trades-go book out len = record { numbers = refl; counts = refl; after = refl }
 
 -- ---- which ladders have an offence: that of group 3, kind 1, family 0 alone
@@ -115,9 +114,9 @@ test-is false false e = refl
 -- computed for each of the 6,144
 one-tested : every (λ l. pick (eqb l place) (offends verdict l) (not (offends verdict l))) (ladders (kindsOf 1)) ≡ true
 unfolding workedRecords workedTables tablesFor tradeOn kindsOf kindsIn firstKind verdictOn offends lowestOn lowest
-    reachedAt familyOf timesOn timesOf howMany countsFor countsAs planOf planFor groupOf hasAccount contractOf
-    accountOf contractPlace accountPlace recordOf tablesOf tablesIn headerOf contractAt accountAt family enough exempt
-    known byThree first every le pick
+    reachedAt familyOf timesOn timesOf howMany countsFor countsAs planOf planFor groupOf groupIn contractOf isIn
+    contractPlace accountPlace recordOf tablesOf tablesIn headerOf contractAt accountAt family enough exempt known
+    byThree first every le pick
 one-tested = refl
 
 one-hit : (l : ℕ) → l < ladders (kindsOf 1) → offends verdict l ≡ eqb l place
@@ -179,8 +178,8 @@ textAt l total =
 text-is : textAt place 2 ≡ workedFinding
 unfolding workedFinding workedRecords workedTables tablesFor tradeOn kindsOf kindsIn firstKind finding bytes sanction
     rung memberOn hasMember verdictOn lowestOn lowest reachedAt familyOf timesOn timesOf howMany countsFor countsAs
-    planOf planFor groupOf hasAccount contractOf accountOf contractPlace accountPlace recordOf tablesOf tablesIn
-    headerOf contractAt accountAt family enough exempt known byThree first some every le pick
+    planOf planFor groupOf groupIn contractOf isIn contractPlace accountPlace recordOf tablesOf tablesIn headerOf
+    contractAt accountAt family enough exempt known byThree first some every le pick
 text-is = refl
 
 found-is : (l : ℕ) → l < ladders (kindsOf 1) → foundAt verdict 20240305 before l ≡ pick (eqb l place) workedFinding []
@@ -293,10 +292,10 @@ unfolding noBook noBookSteps wrongMark workedTables tablesFor numbersOn rules ru
 no-book = refl
 
 day-open : (p : Paper) → numbersOn (justOpened p) openSteps ≡ 10 ∷ 1 ∷ 11 ∷ 12 ∷ 13 ∷ 0 ∷ 15 ∷ 0 ∷ 10 ∷ []
-unfolding justOpened openSteps workedTables tablesFor tradeOn endRow numbersOn rules rule takeRuled takeNumber
-    endRuled endRefusal rowFault endGood recordFault brokersWrong fieldsFault hasContract hasAccount contractOf
-    accountOf contractPlace accountPlace recordLength recordGood recordOf answered tablesOf tablesIn headerOf
-    contractAt accountAt first le orElse pick
+unfolding justOpened openSteps workedTables tablesFor tradeOn endRow numbersOn rules rule takeRuled takeNumber endRuled
+    endRefusal rowFault endGood recordFault brokersWrong fieldsFault hasContract hasAccount contractOf isIn
+    contractPlace accountPlace recordLength recordGood recordOf answered tablesOf tablesIn headerOf contractAt
+    accountAt first le orElse pick
 day-open p = refl
 
 -- the trades with a record of type 3 between
@@ -306,8 +305,8 @@ trades-refused : (book out : List ℕ) (len : ℕ)
     ∷ takeRecord (tradeRow 11 12) ∷ takeRecord (tradeRow 11 12) ∷ takeRecord (tradeRow 12 12) ∷ [])
     (0 ∷ 0 ∷ 11 ∷ 0 ∷ 0 ∷ 0 ∷ []) (0 ∷ 0 ∷ 0 ∷ 0 ∷ 0 ∷ 0 ∷ []) (paper (during workedTables workedRecords) book out len)
 unfolding workedRecords workedTables tablesFor tradeOn endRow numbersOn rules paperAfter rule takeRuled takeNumber
-    recordFault brokersWrong fieldsFault hasContract hasAccount contractOf accountOf contractPlace accountPlace
-    recordLength recordGood recordOf answered tablesOf tablesIn headerOf contractAt accountAt first le orElse pick
+    recordFault brokersWrong fieldsFault hasContract hasAccount contractOf isIn contractPlace accountPlace recordLength
+    recordGood recordOf answered tablesOf tablesIn headerOf contractAt accountAt first le orElse pick
 trades-refused book out len = record { numbers = refl; counts = refl; after = refl }
 
 lends : (p : Paper) (out : List ℕ)

@@ -22,12 +22,12 @@ use Rattle.book.specs.Shape.{dayShape}
 use Rattle.book.specs.Layout.{lastDate, totalAt}
 use Rattle.daylog.specs.declared.record.Record.{Record}
 use Rattle.tables.specs.Contracts.{contractAt, idBefore, contractsGood, contractPlace}
-use Rattle.tables.specs.Accounts.{accountAt, numberBefore, accountsGood, accountPlace}
+use Rattle.tables.specs.Accounts.{accountAt, numberBefore, accountsGood, accountPlace, isIn, groupIn}
 use Rattle.daylog.specs.Header.{headerOf, entriesFault, headFault, logFault, tablesOf}
 use Rattle.daylog.specs.Brokers.{brokersWrong}
 use Rattle.daylog.specs.Records.{recordLength, recordOf, recordGood, endGood}
 use Rattle.daylog.specs.Rows.{rowSize}
-use Rattle.tables.specs.Tables.{tablesIn, accountOf, contractOf, hasAccount, hasContract, groupOf}
+use Rattle.tables.specs.Tables.{tablesIn, contractOf, hasAccount, hasContract, groupOf}
 use Rattle.counts.specs.Counting.{planFor, planOf, countsAs, countsFor, fieldsFault}
 use Rattle.counts.specs.Weigh.{recordFault}
 use Rattle.verdict.specs.Verdict.{offends}
@@ -42,7 +42,8 @@ use Rattle.demands.specs.Calls.{Step, numberIn, Given, numbers, Ran, lef
 use Rattle.demands.specs.Paper.{idle, during, Paper, dayIn, takeNumber, takeRuled, rule, rules, numbersOn}
 use Rattle.demands.specs.Paper.{paperAfter}
 use Rattle.demands.specs.Logs.{clerkCounts}
-use Rattle.demands.specs.Join.{byPlace, joinLog}
+use Rattle.joining.specs.Joining.{byPlace, joinBytes}
+use Rattle.demands.specs.Join.{joinLog}
 use Rattle.demands.specs.Demand3.{opens as open-joins, takes, ends, StepsJoined, none, more, roomy, allRoomy}
 use Rattle.demands.specs.Demand3.{full-size, FreshRun}
 use Rattle.demands.specs.Worked.{tablesFor, tradeOn, tradeRow, endRow, wholeDay}
@@ -126,9 +127,9 @@ module _ (g : ℕ) where
       → DayGood (yearTables 2 g) firstTrades (0 ∷ 0 ∷ 0 ∷ 0 ∷ 12 ∷ 0 ∷ []) (0 ∷ 0 ∷ 0 ∷ 0 ∷ 0 ∷ 0 ∷ [])
       firstRecords 20240102
   unfolding firstTrades firstRecords yearTables tablesFor tradeOn endRow numbersOn rules paperAfter rule takeRuled
-      takeNumber recordFault brokersWrong fieldsFault hasContract hasAccount contractOf accountOf contractPlace
-      accountPlace recordLength recordGood recordOf answered tablesOf tablesIn headerOf contractAt accountAt rowFault
-      endGood first le orElse pick
+      takeNumber recordFault brokersWrong fieldsFault hasContract hasAccount contractOf isIn contractPlace accountPlace
+      recordLength recordGood recordOf answered tablesOf tablesIn headerOf contractAt accountAt rowFault endGood first
+      le orElse pick
   first-day e =
       record {
         good = e;
@@ -142,9 +143,9 @@ module _ (g : ℕ) where
   second-day : logFault (yearTables 3 g) ≡ 0
       → DayGood (yearTables 3 g) secondTrades (0 ∷ 0 ∷ 0 ∷ 0 ∷ 0 ∷ []) (0 ∷ 0 ∷ 0 ∷ 0 ∷ 0 ∷ []) secondRecords 20240103
   unfolding secondTrades secondRecords yearTables tablesFor tradeOn endRow numbersOn rules paperAfter rule takeRuled
-      takeNumber recordFault brokersWrong fieldsFault hasContract hasAccount contractOf accountOf contractPlace
-      accountPlace recordLength recordGood recordOf answered tablesOf tablesIn headerOf contractAt accountAt rowFault
-      endGood first le orElse pick
+      takeNumber recordFault brokersWrong fieldsFault hasContract hasAccount contractOf isIn contractPlace accountPlace
+      recordLength recordGood recordOf answered tablesOf tablesIn headerOf contractAt accountAt rowFault endGood first
+      le orElse pick
   second-day e =
       record {
         good = e;
@@ -222,14 +223,14 @@ offences : (offenceDays 2024 (selfs 3) (allWritten (yearDays 3)) ≡ 1)
     × (offenceDays 2024 (selfs 3) (allWritten (yearDays 4)) ≡ 0)
     × (offenceDays 2024 (selfs 4) (allWritten (yearDays 4)) ≡ 2)
 unfolding yearTables tablesFor tradeOn firstRecords secondRecords offenceDays offenceOn offends verdictOn lowestOn
-    lowest reachedAt timesOn timesOf howMany familyOf countsFor countsAs planOf planFor groupOf hasAccount contractOf
-    accountOf contractPlace accountPlace kindsOf kindsIn firstKind recordOf tablesOf tablesIn headerOf contractAt
-    accountAt family enough exempt known byThree first some every le pick
+    lowest reachedAt timesOn timesOf howMany familyOf countsFor countsAs planOf planFor groupOf groupIn contractOf isIn
+    contractPlace accountPlace kindsOf kindsIn firstKind recordOf tablesOf tablesIn headerOf contractAt accountAt
+    family enough exempt known byThree first some every le pick
 offences = (refl, refl, refl, refl)
 
 -- ---- the year joined
 tables-join : (joinLog 3 4 (yearTables 2 3) ≡ yearTables 2 4) × (joinLog 3 4 (yearTables 3 3) ≡ yearTables 3 4)
-unfolding yearTables tablesFor joinLog byPlace headerOf le pick
+unfolding yearTables tablesFor joinLog joinBytes byPlace headerOf le pick
 tables-join = (refl, refl)
 
 joined-ran : {gs : List Given} → Ran yearDesk yearJoined gs

@@ -2,37 +2,27 @@
 -- bytes in the lent tables and of nothing else".
 use mathlib.Core.Path.{_≡_}
 use mathlib.Core.Bool.{Bool, _&&_, _||_, not}
-use mathlib.Core.List.{List, [], _∷_}
-use Prim.Native.Nat.{ℕ, suc, _+_, _-_, _*_, _%_}
-use lib.Dec.{leb, ltb, eqb}
-use Rattle.wire.specs.Choice.{pick}
+use mathlib.Core.List.{List}
+use Prim.Native.Nat.{ℕ, _+_, _*_}
+use lib.Dec.{eqb}
 use Rattle.daylog.specs.declared.header.Header.{Header}
 use Rattle.daylog.specs.declared.record.Record.{Record}
 use Rattle.daylog.specs.Header.{headerOf}
 use Rattle.tables.specs.Tables.{Tables, contractOf, groupOf}
+use Rattle.joining.specs.Joining.{joinBytes, AccountsJoined}
 use Rattle.counts.specs.Counting.{exempt1, exempt2}
 use Rattle.years.specs.Days.{howMany}
-use Rattle.years.specs.Joined.{joined}
 
 -- ---- the change of bytes
--- where the account entries of a log begin, and where they end
+-- where the account entries of a log, or of a file that begins with its tables, begin, and where they end
 abbrev pub accountsFrom : Header → ℕ
 accountsFrom h = 16 + 8 * h .contracts
 
 abbrev pub accountsTo : Header → ℕ
 accountsTo h = accountsFrom h + 8 * h .accounts
 
--- the byte at a place of a log, or of a file that begins with its tables, is the group of an account entry, byte 4
-abbrev pub groupByte : Header → ℕ → Bool
-groupByte h i = leb (accountsFrom h) i && ltb i (accountsTo h) && eqb ((i - accountsFrom h) % 8) 4
-
--- every byte by its place, which is counted from i on
-unfoldable pub byPlace : (ℕ → ℕ → ℕ) → ℕ → List ℕ → List ℕ
-byPlace f i [] = []
-byPlace f i (x ∷ xs) = f i x ∷ byPlace f (suc i) xs
-
 unfoldable pub joinLog : (a b : ℕ) → List ℕ → List ℕ
-joinLog a b log = byPlace (λ i x. pick (groupByte (headerOf log) i) (joined a b x) x) 0 log
+joinLog a b log = joinBytes a b (accountsFrom (headerOf log)) (accountsTo (headerOf log)) log
 
 -- ---- what it is for the tables: the groups of accounts change and nothing else does
 pub record Joined (a b : ℕ) (t t′ : Tables) : Type 0 where
@@ -40,9 +30,7 @@ pub record Joined (a b : ℕ) (t t′ : Tables) : Type 0 where
   pub contracts : t′ .contracts ≡ t .contracts
   pub contract : (k : ℕ) → t′ .contract k ≡ t .contract k
   pub accounts : t′ .accounts ≡ t .accounts
-  pub number : (k : ℕ) → t′ .account k .number ≡ t .account k .number
-  pub kind : (k : ℕ) → t′ .account k .kind ≡ t .account k .kind
-  pub group : (k : ℕ) → t′ .account k .group ≡ joined a b (t .account k .group)
+  pub account : AccountsJoined a b (t .account) (t′ .account)
 
 -- ---- "the trades between a and b that are not exempt"
 unfoldable pub betweenFor : Tables → Record → (a b place : ℕ) → Bool

@@ -3,12 +3,11 @@ use Prim.Native.Nat.{ℕ}
 use mathlib.Core.Bool.{Bool}
 use mathlib.Core.List.{List}
 use lib.Dec.{ltb}
-use Rattle.wire.specs.Choice.{pick}
 use Rattle.rules.specs.declared.text.Text.{Text}
 use Rattle.tables.specs.declared.contracts.Contract.{Contract}
 use Rattle.tables.specs.declared.accounts.Account.{Account}
 use Rattle.tables.specs.Entries.{entries}
-use Rattle.tables.specs.Accounts.{accountAt, accountPlace, hasMember}
+use Rattle.tables.specs.Accounts.{accountAt, isIn, groupIn, hasMember}
 use Rattle.tables.specs.Contracts.{contractAt, contractPlace}
 
 pub record Tables : Type 0 where
@@ -29,22 +28,19 @@ tablesIn text contracts accounts = record {
 }
 
 -- ---- what the tables say of a number
--- the place of an account, and of a contract; past the table's end where it is not there
-unfoldable pub accountOf : Tables → ℕ → ℕ
-accountOf t number = accountPlace (t .account) (t .accounts) number
+-- an account is there; and its group, 0 where it is not
+unfoldable pub hasAccount : Tables → ℕ → Bool
+hasAccount t number = isIn (t .account) (t .accounts) number
 
+unfoldable pub groupOf : Tables → ℕ → ℕ
+groupOf t number = groupIn (t .account) (t .accounts) number
+
+-- the place of a contract, past the table's end where it is not there
 unfoldable pub contractOf : Tables → ℕ → ℕ
 contractOf t id = contractPlace (t .contract) (t .contracts) id
 
-unfoldable pub hasAccount : Tables → ℕ → Bool
-hasAccount t number = ltb (accountOf t number) (t .accounts)
-
 unfoldable pub hasContract : Tables → ℕ → Bool
 hasContract t id = ltb (contractOf t id) (t .contracts)
-
--- the group of an account, 0 where it is not there
-unfoldable pub groupOf : Tables → ℕ → ℕ
-groupOf t number = pick (hasAccount t number) (t .account (accountOf t number) .group) 0
 
 -- the group has a member among the accounts
 unfoldable pub memberOn : Tables → ℕ → Bool

@@ -5,8 +5,6 @@ use mathlib.Core.Logic.{_⊎_}
 use mathlib.Core.Bool.{true, false}
 use mathlib.Core.List.{List, [], _∷_}
 use Prim.Native.Nat.{ℕ, _≤_, _<_}
-use lib.Dec.{eqb}
-use Rattle.wire.specs.Choice.{pick}
 use Rattle.places.specs.Places.{ladders, ladderOf, groupAt, HasLadder}
 use Rattle.book.specs.declared.shape.Shape.{Shape}
 use Rattle.book.specs.Layout.{totalAt}
@@ -26,10 +24,6 @@ pub record Two (a b : ℕ) : Type 0 where
 pub record Other (a b group : ℕ) : Type 0 where
   pub not-a : group ≡ a → ⊥
   pub not-b : group ≡ b → ⊥
-
--- "give all accounts of group a the number of group b": the number of a group after the join
-abbrev pub joined : (a b group : ℕ) → ℕ
-joined a b group = pick (eqb group a) b group
 
 -- ---- of a day: its verdict, and that of the same day with group a joined to group b
 pub record VerdictJoined (a b : ℕ) (v v′ : Verdict) : Type 0 where

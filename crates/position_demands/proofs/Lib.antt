@@ -5,3 +5,4 @@ pub mod JoinDays
 pub mod JoinLogs
 pub mod JoinRun
 pub mod Demand3
+pub mod Lines

@@ -5,6 +5,7 @@ use Rattle.position_demands.specs.Demand2.{OffencesCounted, FindingsList
 use Rattle.position_demands.specs.Demand2.{BookOfDays, TotalsCounted, BlankCarriesNothing, SanctionsFound}
 use Rattle.position_demands.specs.Demand2.{FindingsFound, FileOfDays, LogsFound}
 use Rattle.position_demands.specs.Demand3.{EachDayJoined, NothingLost, NothingLostInLogs}
+use Rattle.position_demands.specs.Lines.{Lines}
 
 pub record Promised : Type 0 where
   -- demand 1
@@ -30,3 +31,5 @@ pub record Promised : Type 0 where
   pub each-day-joined : EachDayJoined
   pub nothing-lost : NothingLost
   pub nothing-lost-in-logs : NothingLostInLogs
+  -- either side of each line
+  pub lines-hold : Lines

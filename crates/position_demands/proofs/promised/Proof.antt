@@ -5,6 +5,7 @@ use Rattle.position_demands.proofs.Demand2.{findings-listed, stays-soun
 use Rattle.position_demands.proofs.Demand2.{totals-counted, blank-carries-nothing, sanctions-found}
 use Rattle.position_demands.proofs.Demand2.{findings-found, file-of-days, logs-found}
 use Rattle.position_demands.proofs.Demand3.{each-day-joined, nothing-lost, nothing-lost-in-logs}
+use Rattle.position_demands.proofs.Lines.{lines-hold}
 use Rattle.position_demands.proofs.promised.Statement.{statement}
 use Rattle.position_demands.proofs.promised.Tie as tie
 
@@ -29,6 +30,7 @@ returns c = record {
   each-day-joined = each-day-joined;
   nothing-lost = nothing-lost;
   nothing-lost-in-logs = nothing-lost-in-logs;
+  lines-hold = lines-hold;
 }
 
 pub promised-spec : {M : Type 1} → statement M

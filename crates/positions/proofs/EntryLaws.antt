@@ -1,6 +1,7 @@
--- Laws of contract entries and records: what stands before the next one, and the search for a contract. Assumes nothing.
-use mathlib.Core.Path.{_≡_, refl, sym}
-use mathlib.Core.Bool.{Bool, true, false}
+-- Laws of contract entries and records: what stands before the next one, and the search for a contract. Assumes
+-- nothing.
+use mathlib.Core.Path.{_≡_, sym}
+use mathlib.Core.Bool.{Bool, false}
 use mathlib.Core.List.{List}
 use Prim.Native.Nat.{ℕ, _+_, _<_}
 use native.Mathlib.Numerals.{add-one}

@@ -1,6 +1,6 @@
 -- What is known of a position log without fault. Assumes nothing.
-use mathlib.Core.Path.{_≡_, refl, sym, _∙_}
-use mathlib.Core.Bool.{Bool, true, _&&_}
+use mathlib.Core.Path.{_≡_}
+use mathlib.Core.Bool.{true, _&&_}
 use mathlib.Core.List.{List}
 use Prim.Native.Nat.{ℕ}
 use borrow.Author.Tests.{leb-true, eqb-true, not-false}
@@ -9,10 +9,10 @@ use Rattle.wire.specs.Choice.{within}
 use Rattle.wire.proofs.ChoiceLaws.{pick-zero, and-left, and-right, bounds, or-none}
 use Rattle.rules.specs.Codes.{isRulebook}
 use Rattle.calendar.specs.Dates.{realDay}
-use Rattle.daylog.specs.declared.header.Header.{Header}
 use Rattle.daylog.specs.Header.{headerOf}
 use Rattle.positions.specs.Records.{recordsGood}
-use Rattle.positions.specs.Log.{recordsIn, headGood, limitsPart, accountsPart, recordsPart, tablesFault, frontFault}
+use Rattle.positions.specs.Log.{recordsIn, headGood, limitsPart, accountsPart, recordsPart, tablesFault}
+use Rattle.positions.specs.Log.{frontFault}
 use Rattle.positions.specs.Log.{logFault}
 use Rattle.positions.specs.GoodPositions.{GoodPositions}
 

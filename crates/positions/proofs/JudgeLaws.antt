@@ -1,10 +1,9 @@
 -- The refusals of `judge` in their order, and the day that is settled. Assumes nothing.
-use mathlib.Core.Path.{_≡_, refl, sym, ap, ap₂, _∙_, subst}
+use mathlib.Core.Path.{_≡_, sym, ap, ap₂, _∙_, subst}
 use mathlib.Core.Bool.{true}
 use mathlib.Core.List.{List, []}
 use Prim.Native.Nat.{ℕ, _<_}
 use lib.ListN.{length, getD}
-use Rattle.wire.specs.Choice.{orElse}
 use Rattle.wire.specs.Outcomes.{Outcome}
 use Rattle.wire.proofs.ChoiceLaws.{or-else}
 use Rattle.wire.proofs.AnswerLaws.{refused-first, then-by}
@@ -18,7 +17,7 @@ use Rattle.daylog.specs.Header.{headerOf, textOf}
 use Rattle.verdict.specs.declared.settle.Settled.{Settled}
 use Rattle.verdict.specs.declared.settle.Settled.the-variants.{Found, Refused}
 use Rattle.verdict.specs.Verdict.{Verdict, foundCount, verdictIn}
-use Rattle.verdict.specs.Settle.{shortFault, settleFault, written, SettleGives}
+use Rattle.verdict.specs.Settle.{settleFault, written, SettleGives}
 use Rattle.verdict.proofs.SameVerdict.{settle-same}
 use Rattle.verdict.proofs.SettleLaws.{long-fault}
 use Rattle.positions.specs.Books.{positionShape}

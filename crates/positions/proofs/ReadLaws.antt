@@ -4,7 +4,6 @@ use mathlib.Core.Bool.{Bool, true, false, not}
 use mathlib.Core.List.{List}
 use Prim.Native.Nat.{ℕ, _+_, _-_, _*_, _≤_}
 use native.Mathlib.Omega.{arith}
-use borrow.Author.Tests.{not-true, not-false}
 use lib.ListN.{length, take, drop, length-take, length-drop}
 use Rattle.wire.proofs.ChoiceLaws.{pick-yes, pick-no, or-first-by, or-else-by}
 use Rattle.wire.proofs.PartLaws.{part-of, part-rest}
@@ -47,7 +46,12 @@ module _ (log : List ℕ) (h : Header) (is : h ≡ headerOf log) (fine : frontFa
   records-are = part-rest log (recordsFrom h)
 
   pub few-limits : length lent1 ≤ 512
-  few-limits = omega (arith, front-good .most-contracts, ap length limits-are, length-take (16 * h .contracts) (drop 16 log))
+  few-limits = omega (
+    arith,
+    front-good .most-contracts,
+    ap length limits-are,
+    length-take (16 * h .contracts) (drop 16 log),
+  )
 
   pub good-accounts : accountsGood lent2 ≡ true
   good-accounts = ap accountsGood accounts-are ∙ front-good .accounts

@@ -8,11 +8,10 @@ use native.Mathlib.Omega.{arith}
 use borrow.Author.Tests.{ltb-true, not-false, not-true}
 use lib.Dec.{ltb, eqb}
 use lib.ListN.{length, getD, replicate}
-use Rattle.wire.specs.Choice.{pick}
 use Rattle.wire.specs.Below.{every}
 use Rattle.wire.proofs.ByteLaws.{four-low}
-use Rattle.wire.proofs.ChoiceLaws.{pick-yes, and-left, and-right, flip-no}
-use Rattle.wire.proofs.BelowLaws.{every-fails, every-more}
+use Rattle.wire.proofs.ChoiceLaws.{pick-yes, and-left, and-right}
+use Rattle.wire.proofs.BelowLaws.{every-fails}
 use Rattle.rules.specs.declared.kinds.Kinds.the-variants.{One}
 use Rattle.rules.specs.declared.measure.Lots.{Lots}
 use Rattle.tables.specs.Entries.{entries}
@@ -68,7 +67,8 @@ module _ (contracts accounts records : List ℕ) (good : accountsGood accounts �
     unfolding goodAt
     tests =
         ap₂ (λ (x : Bool) (p : ℕ). x && ltb p (limitCount contracts) && not (eqb (length entry) 0)) f (l .place-is)
-        ∙ ap (λ (x : Bool). fieldsGood contract account r && ltb (placed (r .contract)) (limitCount contracts) && x) there
+        ∙ ap (λ (x : Bool). fieldsGood contract account r && ltb (placed (r .contract)) (limitCount contracts) && x)
+        there
         ∙ ap₂ (λ (a b : ℕ). fieldsGood a b r && ltb (placed (r .contract)) (limitCount contracts)
         && isIn (accountAt accounts) (entries accounts) (r .account)) (l .contract-is) (l .account-is)
         ∙ ap (λ (x : Position). fieldsGood (contractBefore records k) (accountBefore records k) x
@@ -83,7 +83,8 @@ module _ (contracts accounts records : List ℕ) (good : accountsGood accounts �
 
     pub turn-place : not tested ≡ false → place < limitCount contracts
     turn-place e =
-        ltb-true _ _ (and-right fields _ (and-left (fields && ltb place (limitCount contracts)) _ (not-false tested e)))
+        ltb-true _ _
+        (and-right fields _ (and-left (fields && ltb place (limitCount contracts)) _ (not-false tested e)))
 
     -- the cell of the record
     pub turn-cell : not tested ≡ false → (group : ℕ) → group ≡ getD entry 4 0
@@ -120,7 +121,8 @@ module _ (contracts accounts records : List ℕ) (good : accountsGood accounts �
         → c ≡ sideTo contracts accounts records side k → getD c i 0 ≤ 4294967295 * k
     unfolding sideTo
     side-most few k i e =
-        rw e (summed-most (cells One) (cellAt contracts accounts records) (λ j. side (positionAt records j) .0) few k i)
+        rw e (summed-most (cells One) (cellAt contracts accounts records) (λ j. side (positionAt records j) .0)
+        few k i)
 
   -- ---- all records
   pub all-bad : (k : ℕ) → k < recordCount records → goodAt contracts accounts records k ≡ false

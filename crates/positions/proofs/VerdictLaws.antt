@@ -2,16 +2,15 @@
 use mathlib.Core.Path.{_≡_, refl, sym, ap, ap₂, _∙_, subst}
 use mathlib.Core.Bool.{Bool, true, false, _&&_}
 use mathlib.Core.List.{List, []}
-use Prim.Native.Nat.{ℕ, _+_, _*_, _/_, _%_, _<_, _≤_}
+use Prim.Native.Nat.{ℕ, _+_, _*_, _/_, _<_, _≤_}
 use native.Mathlib.Omega.{arith}
 use borrow.Author.Tests.{ltb-true, leb-true, leb-false, lt-ltb, le-ltb}
 use lib.Dec.{leb, ltb, eqb}
-use lib.ListN.{length, getD, drop, length-take, length-drop}
+use lib.ListN.{length, getD, drop, length-take}
 use lib.Seq.{getD-drop}
 use Rattle.wire.specs.Choice.{pick}
-use Rattle.wire.specs.Below.{sum, first}
+use Rattle.wire.specs.Below.{first}
 use Rattle.wire.specs.Bytes.{le, bytes}
-use Rattle.wire.specs.Buffers.{rows}
 use Rattle.wire.proofs.ChoiceLaws.{pick-yes, pick-no, and-left, and-right}
 use Rattle.wire.proofs.BelowLaws.{every-at, count-sum, sum-cong, first-cong}
 use Rattle.wire.proofs.ByteLaws.{bytes-length, pair-low}
@@ -27,7 +26,7 @@ use Rattle.tables.proofs.EntryLaws.{group-at}
 use Rattle.places.specs.Places.{ladders, cells, cellOf, groupAt, kindAt, familyAt, HasRow, HasCell}
 use Rattle.places.proofs.LadderLaws.{row-at, ladder-cell, cell-test, cell-there}
 use Rattle.posting.specs.Raise.{placeIn}
-use Rattle.verdict.specs.Verdict.{Verdict, verdictIn}
+use Rattle.verdict.specs.Verdict.{verdictIn}
 use Rattle.verdict.proofs.SameVerdict.{Same}
 use Rattle.daylog.specs.declared.header.Header.{Header}
 use Rattle.daylog.specs.Header.{headerOf, textOf}
@@ -40,10 +39,10 @@ use Rattle.positions.specs.Log.{limitsPart, accountsPart, recordsPart, P
 use Rattle.positions.specs.Offences.{groupOn, placeOn, isOf, heldOf, overEither, isMany, familyOf, overOn}
 use Rattle.positions.specs.Offences.{lowestOn, verdictOn}
 use Rattle.positions.specs.Judge.{logVerdict}
-use Rattle.positions.specs.Way.{summed, sizesIn, cellAt, sideTo, longTo, shortTo, familyIn, familiesIn, idsIn}
+use Rattle.positions.specs.Way.{sizesIn, cellAt, sideTo, longTo, shortTo, familyIn, familiesIn, idsIn}
 use Rattle.positions.specs.Way.{overAt, placeAt, placesIn, logPlaces}
 use Rattle.positions.specs.GoodPositions.{GoodPositions}
-use Rattle.positions.proofs.SumLaws.{summed-at, summed-length}
+use Rattle.positions.proofs.SumLaws.{summed-at}
 
 -- a single kind is 5
 five : (l : ℕ) → kindAt One l ≡ 5
@@ -190,7 +189,8 @@ module _ (text : Text) (contracts accounts records : List ℕ) (few : limitCount
       ap (first (overAt text contracts fams longs shorts l)) families-length
       ∙ first-cong _ _ (limitCount contracts) (λ c w. over-is l c h w) in
       ap₂ (λ (n k : ℕ). pick (ltb n 2) (length fams) k) size low
-      ∙ many-cases (groupSize (day .account) (day .accounts) g) (first (overOn day g (familyAt l)) (limitCount contracts))
+      ∙ many-cases (groupSize (day .account) (day .accounts) g)
+      (first (overOn day g (familyAt l)) (limitCount contracts))
       (length fams) (limitCount contracts) families-length
 
   abbrev places : List ℕ

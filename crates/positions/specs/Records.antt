@@ -8,7 +8,6 @@ use lib.ListN.{length}
 use Rattle.wire.specs.Below.{every}
 use Rattle.wire.specs.Bytes.{le}
 use Rattle.rules.specs.Measure.{lots}
-use Rattle.tables.specs.declared.accounts.Account.{Account}
 use Rattle.tables.specs.Entries.{entries}
 use Rattle.tables.specs.Accounts.{accountAt, isIn}
 use Rattle.positions.specs.declared.records.Position.{Position}

@@ -15,7 +15,7 @@ use Rattle.rules.specs.declared.text.Text.{Text}
 use Rattle.rules.specs.Ladders.{family}
 use Rattle.tables.specs.Entries.{entries}
 use Rattle.tables.specs.Accounts.{accountAt, groupIn}
-use Rattle.places.specs.Places.{ladders, cells, cellOf, groupAt, familyAt}
+use Rattle.places.specs.Places.{ladders, cells, cellOf, familyAt}
 use Rattle.daylog.specs.declared.header.Header.{Header}
 use Rattle.daylog.specs.Header.{textOf}
 use Rattle.positions.specs.declared.records.Position.{Position}

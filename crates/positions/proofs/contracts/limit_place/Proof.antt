@@ -30,7 +30,8 @@ unfolding limitedAt
 returns c =
     let a = c .before .before .before .before .before .args in
     let l = c .before .before .before .loop in
-    limit-here (a .part .now) (a .id) (l .k) (omega arith) (l .inv .1) (sym (c .before .get16 .ensures) ∙ c .if1 .taken)
+    limit-here (a .part .now) (a .id) (l .k) (omega arith) (l .inv .1)
+    (sym (c .before .get16 .ensures) ∙ c .if1 .taken)
 
 add-k : tie.Need-add-k Inv-loop μ-loop
 add-k c = search needs

@@ -94,9 +94,12 @@ on-tables h log longs shorts t s e =
 
 returns : tie.Need-returns
 returns c =
-    let a = c .before .before .before .before .before .before .before .before .before .before .before .before .before .before .before .before .before .before .before .args in
-    on-tables (a .h) (a .log .now) (a .longs .now) (a .shorts .now) (c .before .before .before .before .before .before .before .before .text-of .ensures)
-    (c .before .before .before .before .before .before .before .before .before .before .add-sizes .ensures) (c .before .before .before .judge-with .ensures)
+    let a = c .before .before .before .before .before .before .before .before .before .before .before .before .before
+    .before .before .before .before .before .before .args in
+    on-tables (a .h) (a .log .now) (a .longs .now) (a .shorts .now)
+    (c .before .before .before .before .before .before .before .before .text-of .ensures)
+    (c .before .before .before .before .before .before .before .before .before .before .add-sizes .ensures)
+    (c .before .before .before .judge-with .ensures)
 
 pub judge-places-spec : {M : Type 1} → statement M
 judge-places-spec =

@@ -16,8 +16,10 @@ same-length-2 c = search needs
 
 returns : tie.Need-returns
 returns c =
-    let a = c .before .before .before .before .before .before .before .before .before .before .before .before .before .args in
-    log-refused (a .log .now) (a .book .now) (a .out .now) _ (c .before .before .before .before .before .read-log .ensures .0) (c .if1 .taken)
+    let a = c .before .before .before .before .before .before .before .before .before .before .before .before .before
+    .args in
+    log-refused (a .log .now) (a .book .now) (a .out .now) _
+    (c .before .before .before .before .before .read-log .ensures .0) (c .if1 .taken)
 
 header-of-requires : tie.Need-header-of-requires
 header-of-requires c κs = search needs
@@ -39,18 +41,28 @@ same-length-5 c = search needs
 
 returns-2 : tie.Need-returns-2
 returns-2 c =
-    let a = c .before .before .before .before .before .before .before .before .before .before .before .before .before .before .before .before .before .before .args in
+    let a = c .before .before .before .before .before .before .before .before .before .before .before .before .before
+    .before .before .before .before .before .args in
     book-refused (a .log .now) (a .book .now) (a .out .now) _ (c .before .before .before .before .header-of .ensures)
-    (sym (c .before .before .before .before .before .before .before .before .before .before .read-log .ensures .0) ∙ c .before .before .before .before .before .if1 .left) _ _ (c .before .before .before .position-shape .ensures)
+    (sym (c .before .before .before .before .before .before .before .before .before .before .read-log .ensures .0)
+    ∙ c .before .before .before .before .before .if1 .left) _ _ (c .before .before .before .position-shape .ensures)
     (c .before .fits-fault .ensures) (c .if2 .taken)
 
 settle-log-requires : tie.Need-settle-log-requires
 settle-log-requires c κs =
-    let s = c .before .before .before .before .before .before .before .before .before .before .before .before .before .before .before .before .before .before .before .before .before .before .args .log .now in
-    let fine = sym (c .before .before .before .before .before .before .before .before .before .before .before .before .before .before .read-log .ensures .0) ∙ c .before .before .before .before .before .before .before .before .before .if1 .left in
-    let sums = c .before .before .before .before .before .before .before .before .before .before .before .before .before .before .read-log .ensures .1 (c .before .before .before .before .before .before .before .before .before .if1 .left) in
+    let s = c .before .before .before .before .before .before .before .before .before .before .before .before .before
+    .before .before .before .before .before .before .before .before .before .args .log .now in
+    let fine = sym (c .before .before .before .before .before .before .before .before .before .before .before .before
+    .before .before .read-log .ensures .0) ∙ c .before .before .before .before .before .before .before .before .before
+    .if1 .left in
+    let sums = c .before .before .before .before .before .before .before .before .before .before .before .before
+    .before .before .read-log .ensures .1 (c .before .before .before .before .before .before .before .before .before
+    .if1 .left) in
     let is = c .before .before .before .before .before .before .before .before .header-of .ensures in (
-      log-good s (c .before .before .before .before .before .before .before .before .before .before .before .before .before .before .before .before .before .before .before .before .before .before .args .book .now) (c .before .before .before .before .before .before .before .before .before .before .before .before .before .before .before .before .before .before .before .before .before .before .args .out .now) _ is fine,
+      log-good s (c .before .before .before .before .before .before .before .before .before .before .before .before
+          .before .before .before .before .before .before .before .before .before .before .args .book .now)
+          (c .before .before .before .before .before .before .before .before .before .before .before .before .before
+          .before .before .before .before .before .before .before .before .before .args .out .now) _ is fine,
       long-length s (sums .0),
       short-length s (sums .1),
     )
@@ -69,12 +81,25 @@ same-length-9 c = search needs
 
 returns-3 : tie.Need-returns-3
 returns-3 c =
-    let a = c .before .before .before .before .before .before .before .before .before .before .before .before .before .before .before .before .before .before .before .before .before .before .before .before .before .before .before .args in
-    let left = c .before .before .before .before .before .before .before .before .before .before .before .before .before .before .if1 .left in
-    let read = c .before .before .before .before .before .before .before .before .before .before .before .before .before .before .before .before .before .before .before .read-log .ensures in
-    settled (a .log .now) (a .book .now) (a .out .now) _ (c .before .before .before .before .before .before .before .before .before .before .before .before .before .header-of .ensures) (sym (read .0) ∙ left)
-    (λ j. omega (arith, c .before .before .before .before .before .before .before .before .before .before .before .before .before .before .before .before .before .before .before .before .before .before .before .before .before .before .shared-slice-known .given j)) _ (c .before .before .before .before .before .before .before .before .before .before .before .before .position-shape .ensures)
-    (sym (c .before .before .before .before .before .before .before .before .before .before .fits-fault .ensures) ∙ c .before .before .before .before .before .before .before .before .before .if2 .left) (read .1 left .0) (read .1 left .1)
+    let a = c .before .before .before .before .before .before .before .before .before .before .before .before .before
+    .before .before .before .before .before .before .before .before .before .before .before .before .before .before
+    .args in
+    let left = c .before .before .before .before .before .before .before .before .before .before .before .before
+    .before .before .if1 .left in
+    let read = c .before .before .before .before .before .before .before .before .before .before .before .before
+    .before .before .before .before .before .before .before .read-log .ensures in
+    settled (a .log .now) (a .book .now) (a .out .now) _ (c .before .before .before .before .before .before .before
+    .before .before .before .before .before .before .header-of .ensures) (sym (read .0) ∙ left)
+    (λ j. omega (
+      arith,
+      c .before .before .before .before .before .before .before .before .before .before .before .before .before .before
+          .before .before .before .before .before .before .before .before .before .before .before .before
+          .shared-slice-known .given j,
+    )) _ (c .before .before .before .before .before .before .before .before .before .before .before .before
+    .position-shape .ensures)
+    (sym (c .before .before .before .before .before .before .before .before .before .before .fits-fault .ensures)
+    ∙ c .before .before .before .before .before .before .before .before .before .if2 .left) (read .1 left .0)
+    (read .1 left .1)
     (c .before .before .before .before .settle-log .ensures)
 
 pub judge-sums-spec : {M : Type 1} → statement M

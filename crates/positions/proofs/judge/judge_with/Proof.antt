@@ -18,7 +18,8 @@ same-length-2 c = search needs
 
 returns : tie.Need-returns
 returns c =
-    let a = c .before .before .before .before .before .before .before .before .before .before .before .before .before .before .before .args in
+    let a = c .before .before .before .before .before .before .before .before .before .before .before .before .before
+    .before .before .args in
     c .before .before .fill-places .ensures
     ∙ ap (λ f. placesIn (a .text) (a .contracts .now) f (a .longs .now) (a .shorts .now) (a .sizes .now))
     (c .before .before .before .before .before .before .before .fill-families .ensures)

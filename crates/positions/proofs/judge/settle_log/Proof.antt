@@ -77,8 +77,11 @@ on-tables h log book out e g = rw (e, part-of log 16 (16 * h .contracts)) at g
 
 returns : tie.Need-returns
 returns c =
-    let a = c .before .before .before .before .before .before .before .before .before .before .before .before .before .before .before .before .before .before .before .before .args in
-    on-tables (a .h) (a .log .now) (a .book .now) (a .out .now) (c .before .before .before .before .before .before .before .before .before .before .before .before .judge-places .ensures)
+    let a = c .before .before .before .before .before .before .before .before .before .before .before .before .before
+    .before .before .before .before .before .before .before .args in
+    on-tables (a .h) (a .log .now) (a .book .now) (a .out .now)
+    (c .before .before .before .before .before .before .before .before .before .before .before .before .judge-places
+    .ensures)
     (c .before .before .before .before .before .settle-with .ensures)
 
 pub settle-log-spec : {M : Type 1} → statement M

@@ -31,7 +31,11 @@ same-length-3 c = search needs
 
 returns : tie.Need-returns
 returns c =
-    rw (c .before .before .before .before .before .before .before .before .before .position-shape .ensures, c .before .before .before .before .before .before .before .before .before .before .before .before .fill-ids .ensures) at
+    rw (
+      c .before .before .before .before .before .before .before .before .before .position-shape .ensures,
+      c .before .before .before .before .before .before .before .before .before .before .before .before .fill-ids
+          .ensures,
+    ) at
     (c .before .before .before .before .settle .ensures)
 
 pub settle-with-spec : {M : Type 1} → statement M

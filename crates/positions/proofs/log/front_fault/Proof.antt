@@ -35,7 +35,8 @@ returns-4 : tie.Need-returns-4
 unfolding frontFault
 returns-4 c =
     let s = c .before .before .before .before .before .before .before .before .args .log .now in
-    let e = c .before .before .head-good .ensures ∙ ap (λ h. headGood h) (c .before .before .before .header-of .ensures) in
+    let e = c .before .before .head-good .ensures ∙ ap (λ h. headGood h)
+    (c .before .before .before .header-of .ensures) in
     let f = c .tables-fault .ensures ∙ ap (λ h. tablesFault h s) (c .before .before .before .header-of .ensures) in
     search chain depth 12
 

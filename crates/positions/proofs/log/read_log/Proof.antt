@@ -1,7 +1,8 @@
 use mathlib.Core.Path.{sym, _∙_}
 use native.Mathlib.Omega.{arith}
 use borrow.Author.Tests.{not-false}
-use Rattle.positions.proofs.ReadLaws.{front-refused, front-good, few-limits, good-accounts, few-records, long-is}
+use Rattle.positions.proofs.ReadLaws.{front-refused, front-good, few-limits, good-accounts, few-records}
+use Rattle.positions.proofs.ReadLaws.{long-is}
 use Rattle.positions.proofs.ReadLaws.{short-is, records-refused, records-pass}
 use borrow.Author.Needs.{needs}
 use Rattle.positions.proofs.log.read_log.Statement.{statement}
@@ -44,7 +45,9 @@ part-add-records-start c = search needs
 
 part-add-records-end : tie.Need-part-add-records-end
 part-add-records-end c =
-    let q = front-good (c .before .before .before .before .before .before .before .before .args .log .now) _ (c .before .before .header-of .ensures) (sym (c .before .before .before .before .front-fault .ensures) ∙ c .before .before .before .if1 .left) in
+    let q = front-good (c .before .before .before .before .before .before .before .before .args .log .now) _
+    (c .before .before .header-of .ensures) (sym (c .before .before .before .before .front-fault .ensures) ∙ c .before
+    .before .before .if1 .left) in
     omega (arith, q .whole)
 
 sub-add-records-2 : tie.Need-sub-add-records-2
@@ -55,17 +58,25 @@ part-add-records-start-2 c = search needs
 
 part-add-records-end-2 : tie.Need-part-add-records-end-2
 part-add-records-end-2 c =
-    let q = front-good (c .before .before .before .before .before .before .before .before .before .args .log .now) _ (c .before .before .before .header-of .ensures) (sym (c .before .before .before .before .before .front-fault .ensures) ∙ c .before .before .before .before .if1 .left) in
+    let q = front-good (c .before .before .before .before .before .before .before .before .before .args .log .now) _
+    (c .before .before .before .header-of .ensures) (sym (c .before .before .before .before .before .front-fault
+    .ensures) ∙ c .before .before .before .before .if1 .left) in
     omega (arith, q .whole)
 
 sub-add-records-3 : tie.Need-sub-add-records-3
 sub-add-records-3 c =
-    let q = front-good (c .before .before .before .before .before .before .before .before .before .before .args .log .now) _ (c .before .before .before .before .header-of .ensures) (sym (c .before .before .before .before .before .before .front-fault .ensures) ∙ c .before .before .before .before .before .if1 .left) in
+    let q = front-good (c .before .before .before .before .before .before .before .before .before .before .args .log
+    .now) _ (c .before .before .before .before .header-of .ensures)
+    (sym (c .before .before .before .before .before .before .front-fault .ensures) ∙ c .before .before .before .before
+    .before .if1 .left) in
     omega (arith, q .whole)
 
 part-add-records-start-3 : tie.Need-part-add-records-start-3
 part-add-records-start-3 c =
-    let q = front-good (c .before .before .before .before .before .before .before .before .before .before .args .log .now) _ (c .before .before .before .before .header-of .ensures) (sym (c .before .before .before .before .before .before .front-fault .ensures) ∙ c .before .before .before .before .before .if1 .left) in
+    let q = front-good (c .before .before .before .before .before .before .before .before .before .before .args .log
+    .now) _ (c .before .before .before .before .header-of .ensures)
+    (sym (c .before .before .before .before .before .before .front-fault .ensures) ∙ c .before .before .before .before
+    .before .if1 .left) in
     omega (arith, q .whole)
 
 part-add-records-end-3 : tie.Need-part-add-records-end-3
@@ -73,10 +84,13 @@ part-add-records-end-3 c = search needs
 
 add-records-requires : tie.Need-add-records-requires
 add-records-requires c κs =
-    let s = c .before .before .before .before .before .before .before .before .before .before .before .before .before .args .log .now in
+    let s = c .before .before .before .before .before .before .before .before .before .before .before .before .before
+    .args .log .now in
     let e = c .before .before .before .before .before .before .before .header-of .ensures in
-    let f = sym (c .before .before .before .before .before .before .before .before .before .front-fault .ensures) ∙ c .before .before .before .before .before .before .before .before .if1 .left in
-    let p = c .before .before .before .before .before .before .before .before .before .before .before .before .before .pre in
+    let f = sym (c .before .before .before .before .before .before .before .before .before .front-fault .ensures)
+    ∙ c .before .before .before .before .before .before .before .before .if1 .left in
+    let p = c .before .before .before .before .before .before .before .before .before .before .before .before .before
+    .pre in
     (few-limits s _ e f, good-accounts s _ e f, few-records s _ e f, p .0, p .1)
 
 same-length : tie.Need-same-length
@@ -87,8 +101,13 @@ same-length-2 c = search needs
 
 returns-2 : tie.Need-returns-2
 returns-2 c =
-    let s = c .before .before .before .before .before .before .before .before .before .before .before .before .before .before .before .before .before .before .before .args .log .now in (
-      records-refused s _ (c .before .before .before .before .before .before .before .before .before .before .before .before .before .header-of .ensures) (sym (c .before .before .before .before .before .before .before .before .before .before .before .before .before .before .before .front-fault .ensures) ∙ c .before .before .before .before .before .before .before .before .before .before .before .before .before .before .if1 .left) (c .before .before .before .before .before .add-records .ensures .0)
+    let s = c .before .before .before .before .before .before .before .before .before .before .before .before .before
+    .before .before .before .before .before .before .args .log .now in (
+      records-refused s _ (c .before .before .before .before .before .before .before .before .before .before .before
+          .before .before .header-of .ensures) (sym (c .before .before .before .before .before .before .before .before
+          .before .before .before .before .before .before .before .front-fault .ensures) ∙ c .before .before .before
+          .before .before .before .before .before .before .before .before .before .before .before .if1 .left)
+          (c .before .before .before .before .before .add-records .ensures .0)
           (c .if2 .taken),
       λ z. absurd (omega arith),
     )
@@ -101,9 +120,13 @@ same-length-4 c = search needs
 
 returns-3 : tie.Need-returns-3
 returns-3 c =
-    let s = c .before .before .before .before .before .before .before .before .before .before .before .before .before .before .before .before .before .before .before .args .log .now in
-    let e = c .before .before .before .before .before .before .before .before .before .before .before .before .before .header-of .ensures in
-    let f = sym (c .before .before .before .before .before .before .before .before .before .before .before .before .before .before .before .front-fault .ensures) ∙ c .before .before .before .before .before .before .before .before .before .before .before .before .before .before .if1 .left in
+    let s = c .before .before .before .before .before .before .before .before .before .before .before .before .before
+    .before .before .before .before .before .before .args .log .now in
+    let e = c .before .before .before .before .before .before .before .before .before .before .before .before .before
+    .header-of .ensures in
+    let f = sym (c .before .before .before .before .before .before .before .before .before .before .before .before
+    .before .before .before .front-fault .ensures) ∙ c .before .before .before .before .before .before .before .before
+    .before .before .before .before .before .before .if1 .left in
     let g = c .before .before .before .before .before .add-records .ensures in
     let sums = g .1 (not-false _ (c .if2 .left)) in
     (records-pass s _ e f (g .0) (c .if2 .left), λ z. (long-is s _ e f (sums .0), short-is s _ e f (sums .1)))

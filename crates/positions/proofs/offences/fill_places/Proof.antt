@@ -15,7 +15,8 @@ use Rattle.positions.proofs.offences.fill_places.Statement.{statement}
 use Rattle.positions.proofs.offences.fill_places.Tie as tie
 
 abbrev Inv-loop : tie.InvT-loop
-Inv-loop text contracts fams sizes longs shorts places₀ l₀ l-end places l = (l ≤ l-end) × (length places ≡ length places₀)
+Inv-loop text contracts fams sizes longs shorts places₀ l₀ l-end places l =
+    (l ≤ l-end) × (length places ≡ length places₀)
     × (places ≡ put places₀ 0 (rows (λ j. placeAt text contracts fams longs shorts sizes j ∷ []) l))
 
 abbrev μ-loop : tie.MeasureT-loop
@@ -34,7 +35,11 @@ place-at-requires c κs =
 
 cast-put8 : tie.Need-cast-put8 Inv-loop μ-loop
 cast-put8 c =
-    omega (arith, c .before .place-at .ensures .1, c .before .before .before .before .before .before .before .before .before .before .before .pre .0)
+    omega (
+      arith,
+      c .before .place-at .ensures .1,
+      c .before .before .before .before .before .before .before .before .before .before .before .pre .0,
+    )
 
 put8-requires : tie.Need-put8-requires Inv-loop μ-loop
 put8-requires c κs = search needs
@@ -48,14 +53,20 @@ loop-less c = search needs
 
 loop-again : tie.Need-loop-again Inv-loop μ-loop
 loop-again c =
-    let a = c .before .before .before .before .before .before .before .before .before .before .before .before .before .before .args in
+    let a = c .before .before .before .before .before .before .before .before .before .before .before .before .before
+    .before .args in
     let l = c .before .before .before .before .before .before .loop in (
       search needs,
       c .before .before .put8 .kept .0 ∙ l .inv .1,
       byte-turn (placeAt (a .text) (a .contracts .now) (a .fams .now) (a .longs .now) (a .shorts .now) (a .sizes .now))
           (a .places .now) (l .places) _ (l .l) _ (l .inv .2)
           (c .before .before .before .before .place-at .ensures .0) (c .before .before .put8 .ensures)
-          (omega (arith, c .before .before .before .before .before .before .before .before .before .before .before .before .before .before .pre .4, c .before .before .before .before .before .before .before .ladders-in .ensures)),
+          (omega (
+            arith,
+            c .before .before .before .before .before .before .before .before .before .before .before .before .before
+                .before .pre .4,
+            c .before .before .before .before .before .before .before .ladders-in .ensures,
+          )),
     )
 
 same-length : tie.Need-same-length Inv-loop μ-loop
@@ -67,7 +78,8 @@ returns c =
     let a = c .before .before .before .before .before .before .before .before .before .args in
     let l = c .before .loop in
     bytes-all (placeAt (a .text) (a .contracts .now) (a .fams .now) (a .longs .now) (a .shorts .now) (a .sizes .now))
-    (a .places .now) (l .places) (l .l) (ladders One) (l .inv .2) (omega (arith, c .before .before .ladders-in .ensures))
+    (a .places .now) (l .places) (l .l) (ladders One) (l .inv .2)
+    (omega (arith, c .before .before .ladders-in .ensures))
     (c .before .before .before .before .before .before .before .before .before .pre .4)
 
 pub fill-places-spec : {M : Type 1} → statement M

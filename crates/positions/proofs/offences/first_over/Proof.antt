@@ -10,7 +10,8 @@ use Rattle.positions.proofs.offences.first_over.Statement.{statement}
 use Rattle.positions.proofs.offences.first_over.Tie as tie
 
 abbrev Inv-loop : tie.InvT-loop
-Inv-loop text contracts fams longs shorts ladder c₀ c-end c = (c ≤ length fams) × ((j : ℕ) → j < c → overs text contracts fams longs shorts ladder j ≡ false)
+Inv-loop text contracts fams longs shorts ladder c₀ c-end c =
+    (c ≤ length fams) × ((j : ℕ) → j < c → overs text contracts fams longs shorts ladder j ≡ false)
 
 abbrev μ-loop : tie.MeasureT-loop
 μ-loop text contracts fams longs shorts ladder c₀ c-end c = length fams - c

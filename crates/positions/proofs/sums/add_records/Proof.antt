@@ -16,13 +16,16 @@ use Rattle.positions.proofs.sums.add_records.Statement.{statement}
 use Rattle.positions.proofs.sums.add_records.Tie as tie
 
 abbrev Inv-loop : tie.InvT-loop
-Inv-loop contracts accounts records longs₀ shorts₀ contract₀ account₀ place₀ k₀ k-end longs shorts contract account place k = (k ≤ recordCount records) × (contract ≡ contractBefore records k)
+Inv-loop contracts accounts records longs₀ shorts₀ contract₀ account₀ place₀ k₀ k-end longs shorts contract account
+    place k = (k ≤ recordCount records) × (contract ≡ contractBefore records k)
     × (account ≡ accountBefore records k) × (place ≡ limitPlace (limitedAt contracts) (limitCount contracts) contract)
     × (every (goodAt contracts accounts records) k ≡ true) × (longs ≡ longTo contracts accounts records k)
-    × (shorts ≡ shortTo contracts accounts records k) × (length longs ≡ length longs₀) × (length shorts ≡ length shorts₀)
+    × (shorts ≡ shortTo contracts accounts records k) × (length longs ≡ length longs₀)
+    × (length shorts ≡ length shorts₀)
 
 abbrev μ-loop : tie.MeasureT-loop
-μ-loop contracts accounts records longs₀ shorts₀ contract₀ account₀ place₀ k₀ k-end longs shorts contract account place k = recordCount records - k
+μ-loop contracts accounts records longs₀ shorts₀ contract₀ account₀ place₀ k₀ k-end longs shorts contract account place
+    k = recordCount records - k
 
 limit-place-requires : tie.Need-limit-place-requires Inv-loop μ-loop
 limit-place-requires c κs = search needs
@@ -57,10 +60,14 @@ fields-good-requires c κs = search needs
 
 -- what was looked up for the record of this turn
 looked : (c : tie.After-find-account Inv-loop μ-loop) →
-    let a = c .before .before .before .before .before .before .before .before .before .before .before .before .before .args in
+    let a = c .before .before .before .before .before .before .before .before .before .before .before .before .before
+    .args in
     let l = c .before .before .before .before .before .before .loop in
-    Looked (a .contracts .now) (a .accounts .now) (a .records .now) (c .before .before .before .before .before .before .before .before .before .before .before .before .before .pre .1) (l .k) (l .contract)
-    (l .account) (c .before .before .before .before .position-at .result) (c .before .next-place .result) (c .find-account .result .now)
+    Looked (a .contracts .now) (a .accounts .now) (a .records .now)
+    (c .before .before .before .before .before .before .before .before .before .before .before .before .before .pre .1)
+    (l .k) (l .contract)
+    (l .account) (c .before .before .before .before .position-at .result) (c .before .next-place .result)
+    (c .find-account .result .now)
 looked c =
     let l = c .before .before .before .before .before .before .loop in record {
       own = c .before .before .before .before .position-at .ensures;
@@ -78,11 +85,16 @@ same-length-2 c = search needs
 
 returns : tie.Need-returns Inv-loop μ-loop
 returns c =
-    let a = c .before .before .before .before .before .before .before .before .before .before .before .before .before .before .before .args in
+    let a = c .before .before .before .before .before .before .before .before .before .before .before .before .before
+    .before .before .args in
     let l = c .before .before .before .before .before .before .before .before .loop in
-    let bad = turn-bad (a .contracts .now) (a .accounts .now) (a .records .now) (c .before .before .before .before .before .before .before .before .before .before .before .before .before .before .before .pre .1)
+    let bad = turn-bad (a .contracts .now) (a .accounts .now) (a .records .now)
+    (c .before .before .before .before .before .before .before .before .before .before .before .before .before .before
+    .before .pre .1)
     (looked (c .before .before)) (c .before .fields-good .ensures) (c .if1 .taken) in
-    let none = all-bad (a .contracts .now) (a .accounts .now) (a .records .now) (c .before .before .before .before .before .before .before .before .before .before .before .before .before .before .before .pre .1) (l .k)
+    let none = all-bad (a .contracts .now) (a .accounts .now) (a .records .now)
+    (c .before .before .before .before .before .before .before .before .before .before .before .before .before .before
+    .before .pre .1) (l .k)
     (omega arith) bad in
     (none, λ e. (cc, cc))
 
@@ -91,12 +103,16 @@ get8-requires c κs = search needs
 
 cast-cell-of : tie.Need-cast-cell-of Inv-loop μ-loop
 cast-cell-of c =
-    let a = c .before .before .before .before .before .before .before .before .before .before .before .before .before .before .before .before .args in
+    let a = c .before .before .before .before .before .before .before .before .before .before .before .before .before
+    .before .before .before .args in
     omega (
       arith,
-      turn-place (a .contracts .now) (a .accounts .now) (a .records .now) (c .before .before .before .before .before .before .before .before .before .before .before .before .before .before .before .before .pre .1)
+      turn-place (a .contracts .now) (a .accounts .now) (a .records .now)
+          (c .before .before .before .before .before .before .before .before .before .before .before .before .before
+          .before .before .before .pre .1)
           (looked (c .before .before .before)) (c .before .before .fields-good .ensures) (c .before .if1 .left),
-      c .before .before .before .before .before .before .before .before .before .before .before .before .before .before .before .before .pre .0,
+      c .before .before .before .before .before .before .before .before .before .before .before .before .before .before
+          .before .before .pre .0,
     )
 
 cell-of-requires : tie.Need-cell-of-requires Inv-loop μ-loop
@@ -107,14 +123,22 @@ cast-add c = search needs
 
 add-requires : tie.Need-add-requires Inv-loop μ-loop
 add-requires c κs =
-    let a = c .before .before .before .before .before .before .before .before .before .before .before .before .before .before .before .before .before .before .before .args in
+    let a = c .before .before .before .before .before .before .before .before .before .before .before .before .before
+    .before .before .before .before .before .before .args in
     let l = c .before .before .before .before .before .before .before .before .before .before .before .before .loop in
     omega (
       arith,
-      side-most (a .contracts .now) (a .accounts .now) (a .records .now) (c .before .before .before .before .before .before .before .before .before .before .before .before .before .before .before .before .before .before .before .pre .1) (λ r. r .long)
-          (long-most (a .records .now) (λ i. omega (arith, c .before .before .before .before .before .before .before .before .before .before .before .before .before .before .before .before .shared-slice-known3 .given i))) (l .k)
+      side-most (a .contracts .now) (a .accounts .now) (a .records .now)
+          (c .before .before .before .before .before .before .before .before .before .before .before .before .before
+          .before .before .before .before .before .before .pre .1) (λ r. r .long)
+          (long-most (a .records .now) (λ i. omega (
+            arith,
+            c .before .before .before .before .before .before .before .before .before .before .before .before .before
+                .before .before .before .shared-slice-known3 .given i,
+          ))) (l .k)
           (c .before .before .cell-of .result) (l .inv .5),
-      c .before .before .before .before .before .before .before .before .before .before .before .before .before .before .before .before .before .before .before .pre .2,
+      c .before .before .before .before .before .before .before .before .before .before .before .before .before .before
+          .before .before .before .before .before .pre .2,
     )
 
 cast-add-2 : tie.Need-cast-add-2 Inv-loop μ-loop
@@ -122,37 +146,65 @@ cast-add-2 c = search needs
 
 add-requires-2 : tie.Need-add-requires-2 Inv-loop μ-loop
 add-requires-2 c κs =
-    let a = c .before .before .before .before .before .before .before .before .before .before .before .before .before .before .before .before .before .before .before .before .before .before .before .before .args in
-    let l = c .before .before .before .before .before .before .before .before .before .before .before .before .before .before .before .before .before .loop in
+    let a = c .before .before .before .before .before .before .before .before .before .before .before .before .before
+    .before .before .before .before .before .before .before .before .before .before .before .args in
+    let l = c .before .before .before .before .before .before .before .before .before .before .before .before .before
+    .before .before .before .before .loop in
     omega (
       arith,
-      side-most (a .contracts .now) (a .accounts .now) (a .records .now) (c .before .before .before .before .before .before .before .before .before .before .before .before .before .before .before .before .before .before .before .before .before .before .before .before .pre .1) (λ r. r .short)
-          (short-most (a .records .now) (λ i. omega (arith, c .before .before .before .before .before .before .before .before .before .before .before .before .before .before .before .before .before .before .before .before .before .shared-slice-known3 .given i))) (l .k)
+      side-most (a .contracts .now) (a .accounts .now) (a .records .now)
+          (c .before .before .before .before .before .before .before .before .before .before .before .before .before
+          .before .before .before .before .before .before .before .before .before .before .before .pre .1)
+          (λ r. r .short)
+          (short-most (a .records .now) (λ i. omega (
+            arith,
+            c .before .before .before .before .before .before .before .before .before .before .before .before .before
+                .before .before .before .before .before .before .before .before .shared-slice-known3 .given i,
+          ))) (l .k)
           (c .before .before .before .before .before .before .before .cell-of .result) (l .inv .6),
-      c .before .before .before .before .before .before .before .before .before .before .before .before .before .before .before .before .before .before .before .before .before .before .before .before .pre .2,
+      c .before .before .before .before .before .before .before .before .before .before .before .before .before .before
+          .before .before .before .before .before .before .before .before .before .before .pre .2,
     )
 
 add-k : tie.Need-add-k Inv-loop μ-loop
-add-k c = omega (arith, c .before .before .before .before .before .before .before .before .before .before .before .before .before .before .before .before .before .before .before .before .before .before .before .before .before .before .before .pre .2)
+add-k c =
+    omega (
+      arith,
+      c .before .before .before .before .before .before .before .before .before .before .before .before .before .before
+          .before .before .before .before .before .before .before .before .before .before .before .before .before .pre
+          .2,
+    )
 
 loop-less : tie.Need-loop-less Inv-loop μ-loop
 loop-less c = search needs
 
 loop-again : tie.Need-loop-again Inv-loop μ-loop
 loop-again c =
-    let a = c .before .before .before .before .before .before .before .before .before .before .before .before .before .before .before .before .before .before .before .before .before .before .before .before .before .before .before .args in
-    let l = c .before .before .before .before .before .before .before .before .before .before .before .before .before .before .before .before .before .before .before .before .loop in
-    let good = c .before .before .before .before .before .before .before .before .before .before .before .before .before .before .before .before .before .before .before .before .before .before .before .before .before .before .before .pre .1 in
-    let own = c .before .before .before .before .before .before .before .before .before .before .before .before .before .before .before .before .before .before .position-at .ensures in
-    let look = looked (c .before .before .before .before .before .before .before .before .before .before .before .before .before .before) in
-    let fields = c .before .before .before .before .before .before .before .before .before .before .before .before .before .fields-good .ensures in
-    let left = c .before .before .before .before .before .before .before .before .before .before .before .before .if1 .left in
-    let cell = c .before .before .before .before .before .before .before .before .before .before .cell-of .ensures ∙ turn-cell (a .contracts .now) (a .accounts .now) (a .records .now) good
-    look fields left _ (c .before .before .before .before .before .before .before .before .before .before .before .get8 .ensures) in (
+    let a = c .before .before .before .before .before .before .before .before .before .before .before .before .before
+    .before .before .before .before .before .before .before .before .before .before .before .before .before .before
+    .args in
+    let l = c .before .before .before .before .before .before .before .before .before .before .before .before .before
+    .before .before .before .before .before .before .before .loop in
+    let good = c .before .before .before .before .before .before .before .before .before .before .before .before
+    .before .before .before .before .before .before .before .before .before .before .before .before .before .before
+    .before .pre .1 in
+    let own = c .before .before .before .before .before .before .before .before .before .before .before .before .before
+    .before .before .before .before .before .position-at .ensures in
+    let look = looked (c .before .before .before .before .before .before .before .before .before .before .before
+    .before .before .before) in
+    let fields = c .before .before .before .before .before .before .before .before .before .before .before .before
+    .before .fields-good .ensures in
+    let left = c .before .before .before .before .before .before .before .before .before .before .before .before .if1
+    .left in
+    let cell = c .before .before .before .before .before .before .before .before .before .before .cell-of .ensures
+    ∙ turn-cell (a .contracts .now) (a .accounts .now) (a .records .now) good
+    look fields left _ (c .before .before .before .before .before .before .before .before .before .before .before .get8
+    .ensures) in (
       search needs,
       ap (λ r. r .contract) own ∙ contract-before (a .records .now) (l .k),
       ap (λ r. r .account) own ∙ account-before (a .records .now) (l .k),
-      c .before .before .before .before .before .before .before .before .before .before .before .before .before .before .before .next-place .ensures,
+      c .before .before .before .before .before .before .before .before .before .before .before .before .before .before
+          .before .next-place .ensures,
       every-more _ (l .k) (l .inv .4)
           (turn-good (a .contracts .now) (a .accounts .now) (a .records .now) good look fields left),
       side-turn (a .contracts .now) (a .accounts .now) (a .records .now) good (λ r. r .long) (l .k) (l .inv .5) cell
@@ -174,7 +226,8 @@ returns-2 c =
     let a = c .before .before .before .before .before .before .before .before .args in
     let l = c .before .loop in
     let e : l .k ≡ recordCount (a .records .now) = omega arith in
-    let all = all-good (a .contracts .now) (a .accounts .now) (a .records .now) (c .before .before .before .before .before .before .before .before .pre .1) (l .k) e
+    let all = all-good (a .contracts .now) (a .accounts .now) (a .records .now)
+    (c .before .before .before .before .before .before .before .before .pre .1) (l .k) e
     (l .inv .4) in (
       all,
       λ _. (

@@ -47,7 +47,11 @@ add-requires : tie.Need-add-requires Inv-loop μ-loop
 add-requires c κs =
     let a = c .before .before .before .before .before .before .args in
     let l = c .before .before .before .loop in
-    omega (arith, sizes-most (a .accounts .now) (l .k) (c .before .get8 .result) (l .inv .2), c .before .before .before .before .before .before .pre .0)
+    omega (
+      arith,
+      sizes-most (a .accounts .now) (l .k) (c .before .get8 .result) (l .inv .2),
+      c .before .before .before .before .before .before .pre .0,
+    )
 
 add-k : tie.Need-add-k Inv-loop μ-loop
 add-k c = search needs

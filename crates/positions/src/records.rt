@@ -16,18 +16,25 @@ pub struct Position {
     pub short: Lots,
 }
 
+// A record in a part of 16 bytes: that its bytes are there is then known, and not tested.
+fn position_in(part: &[u8]) -> Position
+    ensures { λ r. ⌜ r ≡ positionAt (now (part .entry)) 0 ⌝ }
+{
+    Position {
+        contract: get16(part, 0),
+        spare: get16(part, 2),
+        account: get32(part, 4),
+        long: Lots(get32(part, 8)),
+        short: Lots(get32(part, 12)),
+    }
+}
+
 pub(crate) fn position_at(records: &[u8], k: usize) -> Position
     requires { ⌜ 16 * k + 16 ≤ length (now records) ⌝ }
     ensures { λ r. ⌜ r ≡ positionAt (now (records .entry)) k ⌝ }
 {
     let at = 16 * k;
-    Position {
-        contract: get16(records, at),
-        spare: get16(records, at + 2),
-        account: get32(records, at + 4),
-        long: Lots(get32(records, at + 8)),
-        short: Lots(get32(records, at + 12)),
-    }
+    position_in(&records[at..at + 16])
 }
 
 // The record's own fields, after a record of this contract and account.

@@ -1,4 +1,5 @@
-use Rattle.positions.specs.Records.{positionAt}
+use mathlib.Core.Path.{_∙_}
+use Rattle.positions.proofs.EntryLaws.{own-bytes}
 use borrow.Author.Needs.{needs}
 use Rattle.positions.proofs.records.position_at.Statement.{statement}
 use Rattle.positions.proofs.records.position_at.Tie as tie
@@ -6,49 +7,32 @@ use Rattle.positions.proofs.records.position_at.Tie as tie
 mul-at : tie.Need-mul-at
 mul-at c = search needs
 
-get16-requires : tie.Need-get16-requires
-get16-requires c κs = search needs
+add-position-in : tie.Need-add-position-in
+add-position-in c = search needs
 
-add-get16 : tie.Need-add-get16
-add-get16 c = search needs
+sub-position-in : tie.Need-sub-position-in
+sub-position-in c = search needs
 
-get16-requires-2 : tie.Need-get16-requires-2
-get16-requires-2 c κs = search needs
+part-position-in-start : tie.Need-part-position-in-start
+part-position-in-start c = search needs
 
-add-get32 : tie.Need-add-get32
-add-get32 c = search needs
+part-position-in-end : tie.Need-part-position-in-end
+part-position-in-end c = search needs
 
-get32-requires : tie.Need-get32-requires
-get32-requires c κs = search needs
-
-add-get32-2 : tie.Need-add-get32-2
-add-get32-2 c = search needs
-
-get32-requires-2 : tie.Need-get32-requires-2
-get32-requires-2 c κs = search needs
-
-add-get32-3 : tie.Need-add-get32-3
-add-get32-3 c = search needs
-
-get32-requires-3 : tie.Need-get32-requires-3
-get32-requires-3 c κs = search needs
+position-in-requires : tie.Need-position-in-requires
+position-in-requires c κs = search needs
 
 returns : tie.Need-returns
-unfolding positionAt
-returns c = cc
+returns c = let a = c .before .before .before .args in c .position-in .ensures ∙ own-bytes (a .records .now) (a .k)
 
 pub position-at-spec : {M : Type 1} → statement M
 position-at-spec =
     tie.close
     (tie.spec
     mul-at
-    get16-requires
-    add-get16
-    get16-requires-2
-    add-get32
-    get32-requires
-    add-get32-2
-    get32-requires-2
-    add-get32-3
-    get32-requires-3
+    add-position-in
+    sub-position-in
+    part-position-in-start
+    part-position-in-end
+    position-in-requires
     returns)

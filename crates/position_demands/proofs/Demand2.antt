@@ -1,16 +1,15 @@
 -- Demand 2 for `positions`: the theorems to specs/Demand2. Assumes nothing.
-use mathlib.Core.Path.{_≡_, refl, sym, ap, ap₂, _∙_, subst}
-use mathlib.Core.Bool.{Bool, true, false, not}
-use mathlib.Core.List.{List, [], _∷_, map}
+use mathlib.Core.Path.{_≡_, refl, sym, ap, _∙_, subst}
+use mathlib.Core.Bool.{Bool, true, false}
+use mathlib.Core.List.{List, [], _∷_}
 use Prim.Native.Nat.{ℕ}
 use native.Mathlib.Omega.{arith}
 use borrow.Author.Tests.{eqb-true, eq-eqb}
 use lib.Dec.{eqb}
 use lib.ListN.{length, replicate}
-use Rattle.wire.specs.Choice.{pick, orElse}
+use Rattle.wire.specs.Choice.{pick}
 use Rattle.wire.specs.Buffers.{put}
-use Rattle.wire.proofs.ChoiceLaws.{pick-yes, pick-no, pick-not, or-none, or-not, flip-no}
-use Rattle.rules.specs.declared.kinds.Kinds.the-variants.{One}
+use Rattle.wire.proofs.ChoiceLaws.{pick-no, pick-not, or-none, or-not, flip-no}
 use Rattle.places.specs.Places.{bookSize}
 use Rattle.book.specs.Ask.{askFaultAs}
 use Rattle.book.specs.Fits.{fitsFault}
@@ -21,9 +20,10 @@ use Rattle.posting.proofs.FreshLaws.{made}
 use Rattle.daylog.specs.Header.{headerOf}
 use Rattle.verdict.specs.Verdict.{findings}
 use Rattle.verdict.specs.Settle.{shortFault, written}
-use Rattle.years.specs.Days.{WrittenDay, blankAs}
+use Rattle.years.specs.Days.{blankAs}
 use Rattle.years.specs.Written.{Written, none as begun, more as one-more}
-use Rattle.years.proofs.TotalLaws.{kept, blank-sound, blank-carries, totals-counted as counted, findings-found as found}
+use Rattle.years.proofs.TotalLaws.{kept, blank-sound, blank-carries, totals-counted as counted}
+use Rattle.years.proofs.TotalLaws.{findings-found as found}
 use Rattle.years.proofs.ListedLaws.{findings-listed as listed}
 use Rattle.positions.specs.Books.{positionShape, freshFault, askFault}
 use Rattle.positions.specs.Log.{tablesFault, frontFault, logFault}
@@ -36,8 +36,8 @@ use Rattle.position_demands.specs.Demand1.{namedNumber}
 use Rattle.position_demands.specs.Demand2.{FindingsListed, logDay, History, daysOf, recorded, history, since}
 use Rattle.position_demands.specs.Demand2.{SoundRun, None, none, more, StaysSound, NeverUnsound, BookOfDays}
 use Rattle.position_demands.specs.Demand2.{TotalsCounted, BlankCarriesNothing, SanctionsFound, FindingsFound}
-use Rattle.position_demands.specs.Demand2.{fullRoom, Judged, clerkLent, JudgesAll, none as no-log, next as a-log, lastFile}
-use Rattle.position_demands.specs.Demand2.{accepted, FileOfDays, LogsFound}
+use Rattle.position_demands.specs.Demand2.{fullRoom, Judged, clerkLent, JudgesAll, none as no-log, next as a-log}
+use Rattle.position_demands.specs.Demand2.{lastFile, accepted, FileOfDays, LogsFound}
 use Rattle.position_demands.proofs.OffenceLaws.{allowed}
 use Rattle.position_demands.proofs.Demand1.{number-named}
 
@@ -218,7 +218,8 @@ unfolding freshFaultAs
 fresh-not book rulebook good =
     let long : length book ≡ bookSize (positionShape .kinds) = sound-facts positionShape book good .long in
     pick-not _ 4 _ 17 (λ e. omega arith)
-    (λ e. zero-not (pick-no _ 0 17 0 (flip-no _ (eq-eqb (length book) (bookSize (positionShape .kinds)) long)) refl ∙ e))
+    (λ e.
+    zero-not (pick-no _ 0 17 0 (flip-no _ (eq-eqb (length book) (bookSize (positionShape .kinds)) long)) refl ∙ e))
   where
     zero-not : _≡_ {A = ℕ} 0 17 → ⊥
     zero-not e = omega arith

@@ -5,14 +5,12 @@ use mathlib.Core.List.{List, [], _∷_, map}
 use Prim.Native.Nat.{ℕ, _≤_}
 use native.Mathlib.Omega.{arith}
 use lib.Dec.{eqb}
-use lib.ListN.{length, replicate, length-replicate}
+use lib.ListN.{length, length-replicate}
 use Rattle.wire.specs.Choice.{pick}
 use Rattle.rules.specs.Codes.{isRulebook}
 use Rattle.book.specs.Shape.{rulebookOf}
-use Rattle.book.specs.Sound.{soundAs}
 use Rattle.years.specs.Days.{blankAs}
 use Rattle.years.specs.Written.{none as begun}
-use Rattle.years.specs.Restrictions.{ByRung}
 use Rattle.years.specs.Joined.{Two, YearJoined}
 use Rattle.years.proofs.TotalLaws.{kept, blank-sound, blank-carries}
 use Rattle.years.proofs.RestrictLaws.{limit-rungs}
@@ -21,18 +19,17 @@ use Rattle.book.proofs.BookLaws.{sound-facts}
 use Rattle.positions.specs.Books.{positionShape}
 use Rattle.positions.specs.Log.{positionsOf}
 use Rattle.positions.specs.Judge.{judgeFault}
-use Rattle.position_demands.specs.Calls.{judgeLog, numberIn, Lent, Given, Gives, left}
+use Rattle.position_demands.specs.Calls.{judgeLog, numberIn, Lent, Given, Gives}
 use Rattle.position_demands.specs.Demand1.{namedNumber}
-use Rattle.position_demands.specs.Demand2.{History, daysOf, since, fullRoom, Judged, clerkLent, JudgesAll}
+use Rattle.position_demands.specs.Demand2.{History, daysOf, fullRoom, Judged, clerkLent, JudgesAll}
 use Rattle.position_demands.specs.Demand2.{none as no-log, next as a-log, lastFile, accepted, logDay, recorded}
 use Rattle.position_demands.specs.Join.{joinLog}
-use Rattle.position_demands.specs.Demand3.{EachDayJoined, judges, NothingLost, LogsJoined, NothingLostInLogs}
-use Rattle.position_demands.specs.Demand3.{none, more, all-accepted, full-size}
+use Rattle.position_demands.specs.Demand3.{EachDayJoined, judges, NothingLost, NothingLostInLogs}
 use Rattle.position_demands.proofs.Demand1.{number-named}
-use Rattle.position_demands.proofs.Demand2.{Holds, from-pick}
 use Rattle.position_demands.proofs.JoinDays.{added, stays}
 use Rattle.position_demands.proofs.JoinLogs.{fault-same, positions-joined}
-use Rattle.position_demands.proofs.JoinRun.{Beside, days-same, joined-holds, named-same, not-short, beside-step, runs}
+use Rattle.position_demands.proofs.JoinRun.{Beside, days-same, joined-holds, named-same, not-short, beside-step}
+use Rattle.position_demands.proofs.JoinRun.{runs}
 
 pub each-day-joined : EachDayJoined
 each-day-joined a b two log =
@@ -132,14 +129,17 @@ reads a b two h h′ book book′ (log ∷ logs) _ _ s (a-log {g = g} {js = js} 
     let w = clerkLent book in
     let w′ = clerkLent book′ in
     let n : namedNumber w′ (judgeLog (joinLog a b log)) ≡ namedNumber w (judgeLog log) =
-    named-same a b two s w w′ refl refl judges (λ x e. not-short a b two x (length (w .out)) (full book)) (full book′) in
+    named-same a b two s w w′ refl refl judges (λ x e. not-short a b two x (length (w .out)) (full book))
+    (full book′) in
     let t : Beside a b (withLog h log (numberIn (g .reply))) (withLog h′ (joinLog a b log) (numberIn (g′ .reply)))
     (g .after .book) (g′ .after .book) =
-    rw (← recorded-is w h log g m, ← recorded-is w′ h′ (joinLog a b log) g′ m′) (beside-step a b two s m m′ judges n) in
+    rw (← recorded-is w h log g m, ← recorded-is w′ h′ (joinLog a b log) g′ m′)
+    (beside-step a b two s m m′ judges n) in
     let q = reads a b two _ _ (g .after .book) (g′ .after .book) logs js js′ t r r′ in
     record {
       numbered = ap₂ {C = List ℕ} (λ x xs. x ∷ xs)
-          (number-named w′ (judgeLog (joinLog a b log)) g′ m′ ∙ n ∙ sym (number-named w (judgeLog log) g m)) (q .numbered);
+          (number-named w′ (judgeLog (joinLog a b log)) g′ m′ ∙ n ∙ sym (number-named w (judgeLog log) g m))
+          (q .numbered);
       after = q .after;
     }
 

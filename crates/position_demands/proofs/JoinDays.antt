@@ -3,9 +3,9 @@
 use mathlib.Core.Path.{_≡_, refl, sym, ap, ap₂, _∙_}
 use mathlib.Core.Logic.{_⊎_, inl, inr}
 use mathlib.Core.Bool.{Bool, true, false, _&&_, _||_}
-use Prim.Native.Nat.{ℕ, _+_, _≤_, _<_}
+use Prim.Native.Nat.{ℕ, _+_, _≤_}
 use native.Mathlib.Omega.{arith}
-use borrow.Author.Tests.{ltb-true, leb-true, lt-ltb, le-leb, lt-leb}
+use borrow.Author.Tests.{ltb-true, leb-true, lt-ltb, le-leb}
 use lib.Dec.{leb, ltb, eqb}
 use Rattle.wire.specs.Choice.{pick}
 use Rattle.wire.specs.Below.{sum, first, some}
@@ -20,7 +20,8 @@ use Rattle.places.specs.Places.{ladders, ladderOf, groupAt, familyAt, HasLadder
 use Rattle.places.proofs.LadderLaws.{group-of, family-of}
 use Rattle.tables.specs.Accounts.{groupIn, groupSize}
 use Rattle.joining.specs.Joining.{joined}
-use Rattle.joining.proofs.JoiningLaws.{join-b, join-a, join-other, not-both, group-joined, size-added, size-none, size-other}
+use Rattle.joining.proofs.JoiningLaws.{join-b, join-a, join-other, not-both, group-joined, size-added, size-none}
+use Rattle.joining.proofs.JoiningLaws.{size-other}
 use Rattle.verdict.specs.Verdict.{offends}
 use Rattle.years.specs.Joined.{Two, Other, VerdictJoined}
 use Rattle.positions.specs.declared.contracts.Limited.{Limited}
@@ -28,8 +29,8 @@ use Rattle.positions.specs.declared.records.Position.{Position}
 use Rattle.positions.specs.Books.{positionShape}
 use Rattle.positions.specs.Contracts.{limitPlace}
 use Rattle.positions.specs.Log.{Positions}
-use Rattle.positions.specs.Offences.{groupOn, placeOn, isOf, heldOf, longOf, shortOf, overEither, isMany, familyOf, overOn}
-use Rattle.positions.specs.Offences.{offence, lowestOn, verdictOn}
+use Rattle.positions.specs.Offences.{groupOn, placeOn, isOf, heldOf, longOf, shortOf, overEither, isMany, familyOf}
+use Rattle.positions.specs.Offences.{overOn, offence, lowestOn, verdictOn}
 use Rattle.position_demands.specs.Join.{Joined}
 use Rattle.position_demands.specs.Demand3.{Added}
 use Rattle.position_demands.proofs.OffenceLaws.{offences-counted}
@@ -100,7 +101,8 @@ module _ (a b : ℕ) (two : Two a b) (p p′ : Positions) (j : Joined a b p p′
         (side (p .position k) .0) 0
     unfolding isOf
     moved group k =
-        ap (λ (r : Position). pick (eqb (groupOn p′ r) group && eqb (placeOn p′ r) place) (side r .0) 0) (j .position k)
+        ap (λ (r : Position). pick (eqb (groupOn p′ r) group && eqb (placeOn p′ r) place) (side r .0) 0)
+        (j .position k)
         ∙ ap₂ (λ (g c : ℕ). pick (eqb g group && eqb c place) (side (p .position k) .0) 0) (group-is (p .position k))
         (place-is (p .position k))
 
@@ -169,7 +171,8 @@ module _ (a b : ℕ) (two : Two a b) (p p′ : Positions) (j : Joined a b p p′
       (j .contract place)
       ∙ either-more (p .text) (p .contract place) _ _ _ _ (less (λ r. r .long)) (less (λ r. r .short)) q) e
 
-  offence-stays : (g family′ : ℕ) → ((side : Position → Lots) (place : ℕ) → heldOf side p g place ≤ heldOf side p′ b place)
+  offence-stays : (g family′ : ℕ)
+      → ((side : Position → Lots) (place : ℕ) → heldOf side p g place ≤ heldOf side p′ b place)
       → groupSize (p .account) (p .accounts) g ≤ groupSize (p′ .account) (p′ .accounts) b
       → offence p g family′ ≡ true → offence p′ b family′ ≡ true
   unfolding offence isMany
@@ -197,7 +200,8 @@ module _ (a b : ℕ) (two : Two a b) (p p′ : Positions) (j : Joined a b p p′
       ap (leb 2)
       (size-is group ∙ size-other (j .account) (p .accounts) (two .differ) group (o .not-a) (o .not-b))
 
-  over-stands : (group family′ place : ℕ) → Other a b group → overOn p′ group family′ place ≡ overOn p group family′ place
+  over-stands : (group family′ place : ℕ) → Other a b group
+      → overOn p′ group family′ place ≡ overOn p group family′ place
   unfolding overOn
   over-stands group family′ place o =
       ap (λ (f : ℕ). eqb f family′ && overEither (p′ .text) (p′ .contract place) (longOf p′ group place)
@@ -229,7 +233,8 @@ module _ (a b : ℕ) (two : Two a b) (p p′ : Positions) (j : Joined a b p p′
       → offends (verdictOn q) (ladderOf One g kind family′) ≡ offence q g family′
   on-ladder q g kind family′ h =
       offences-counted q (ladderOf One g kind family′)
-      ∙ ap₂ (offence q) (group-of One g kind family′ (h .row) (h .last-family)) (family-of One g kind family′ (h .last-family))
+      ∙ ap₂ (offence q) (group-of One g kind family′ (h .row) (h .last-family))
+      (family-of One g kind family′ (h .last-family))
 
   -- any group has the ladders that b has
   ladder-of : (g kind family′ : ℕ) → 1 ≤ g → g ≤ 128 → HasLadder One b kind family′ → HasLadder One g kind family′
@@ -265,5 +270,7 @@ module _ (a b : ℕ) (two : Two a b) (p p′ : Positions) (j : Joined a b p p′
           → offends (verdictOn p′) (ladderOf One b kind family′) ≡ true
       on-b kind family′ h (inl o) =
           on-ladder p′ b kind family′ h
-          ∙ stays family′ (inl (sym (on-ladder p a kind family′ (ladder-of a kind family′ (two .first-a) (two .last-a) h)) ∙ o))
-      on-b kind family′ h (inr o) = on-ladder p′ b kind family′ h ∙ stays family′ (inr (sym (on-ladder p b kind family′ h) ∙ o))
+          ∙ stays family′
+          (inl (sym (on-ladder p a kind family′ (ladder-of a kind family′ (two .first-a) (two .last-a) h)) ∙ o))
+      on-b kind family′ h (inr o) =
+          on-ladder p′ b kind family′ h ∙ stays family′ (inr (sym (on-ladder p b kind family′ h) ∙ o))

@@ -1,28 +1,27 @@
 -- Joining group a to group b in a position log changes the groups of its account entries and nothing else: the log has
 -- the same fault, or again none. Assumes nothing.
-use mathlib.Core.Path.{_≡_, refl, sym, ap, ap₂, _∙_}
-use mathlib.Core.Bool.{Bool, true, false, not, _&&_}
+use mathlib.Core.Path.{_≡_, refl, ap, ap₂, _∙_}
+use mathlib.Core.Bool.{Bool, not, _&&_}
 use mathlib.Core.List.{List}
-use Prim.Native.Nat.{ℕ, _+_, _*_, _≤_, _<_}
+use Prim.Native.Nat.{ℕ, _*_}
 use native.Mathlib.Omega.{arith}
-use lib.Dec.{ltb, eqb}
-use lib.ListN.{length, getD}
+use lib.Dec.{ltb}
 use Rattle.wire.specs.Choice.{pick, orElse}
 use Rattle.wire.proofs.BelowLaws.{every-cong}
 use Rattle.tables.specs.Entries.{entries}
-use Rattle.tables.specs.Accounts.{accountAt, accountsGood, isIn}
-use Rattle.joining.specs.Joining.{AccountsJoined, PartJoined}
+use Rattle.tables.specs.Accounts.{accountAt, isIn}
+use Rattle.joining.specs.Joining.{PartJoined}
 use Rattle.joining.proofs.JoiningLaws.{part-joined, in-joined}
 use Rattle.book.specs.Sound.{markGood}
 use Rattle.daylog.specs.declared.header.Header.{Header}
-use Rattle.daylog.specs.Header.{headerOf, textOf}
+use Rattle.daylog.specs.Header.{headerOf}
 use Rattle.daylog.proofs.HeaderLaws.{header-same}
 use Rattle.years.specs.Joined.{Two}
 use Rattle.positions.specs.Contracts.{limitCount, limitedAt, limitPlace}
 use Rattle.positions.specs.Records.{recordCount, positionAt, contractBefore, accountBefore, fieldsGood, goodAt}
 use Rattle.positions.specs.Records.{recordsGood}
-use Rattle.positions.specs.Log.{headGood, accountsFrom, recordsFrom, limitsPart, accountsPart, recordsPart, tablesFault}
-use Rattle.positions.specs.Log.{frontFault, logFault, Positions, positionsIn, positionsOf}
+use Rattle.positions.specs.Log.{accountsFrom, recordsFrom, limitsPart, accountsPart, recordsPart, tablesFault}
+use Rattle.positions.specs.Log.{frontFault, logFault, positionsIn, positionsOf}
 use Rattle.position_demands.specs.Join.{joinLog, Joined}
 
 module _ (a b : ℕ) (two : Two a b) (log : List ℕ) where

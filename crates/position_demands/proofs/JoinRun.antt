@@ -1,12 +1,12 @@
 -- A run and the same run with two groups joined, side by side: the same numbers, each accepted log joined, and both
 -- books those of their days. Assumes nothing.
 use mathlib.Core.Path.{_≡_, refl, sym, ap, ap₂, _∙_, subst}
-use mathlib.Core.Bool.{Bool, true, false, not, _&&_}
+use mathlib.Core.Bool.{Bool, true, false, not}
 use mathlib.Core.List.{List, [], _∷_, map}
-use Prim.Native.Nat.{ℕ, _+_, _*_, _≤_, _<_}
+use Prim.Native.Nat.{ℕ, _*_, _≤_, _<_}
 use native.Mathlib.Omega.{arith}
 use borrow.Author.Tests.{eqb-true, leb-true, le-ltb, ltb-false}
-use lib.Dec.{leb, ltb, eqb, lit<}
+use lib.Dec.{eqb, lit<}
 use lib.ListN.{length}
 use Rattle.wire.specs.Choice.{pick, orElse}
 use Rattle.wire.specs.Buffers.{put}
@@ -16,30 +16,30 @@ use Rattle.rules.specs.declared.kinds.Kinds.the-variants.{One}
 use Rattle.places.specs.Places.{ladders}
 use Rattle.book.specs.Ask.{inRange, askFaultAs}
 use Rattle.book.specs.Fits.{fitsFault}
-use Rattle.book.specs.Sound.{soundAs}
 use Rattle.daylog.specs.declared.header.Header.{Header}
 use Rattle.daylog.specs.Header.{headerOf}
 use Rattle.verdict.specs.Verdict.{foundCount, findings}
 use Rattle.verdict.specs.Settle.{shortFault}
 use Rattle.verdict.proofs.SettleLaws.{found-most}
-use Rattle.years.specs.Days.{WrittenDay, carried, blankAs}
+use Rattle.years.specs.Days.{carried, blankAs}
 use Rattle.years.specs.Written.{Written}
 use Rattle.years.specs.Joined.{Two, SameDay, SameDays, none as no-day, more as a-day}
 use Rattle.years.proofs.TotalLaws.{kept, blank-carries}
 use Rattle.years.proofs.ListedLaws.{findings-listed as listed}
 use Rattle.years.proofs.JoinLaws.{lengths-same as lengths-by, fits-same as fits-by}
 use Rattle.positions.specs.Books.{positionShape, freshFault, askFault}
-use Rattle.positions.specs.Log.{Positions, positionsOf, logFault}
+use Rattle.positions.specs.Log.{positionsOf, logFault}
 use Rattle.positions.specs.Offences.{verdictOn}
 use Rattle.positions.specs.Judge.{logVerdict, judgeFault}
-use Rattle.position_demands.specs.Calls.{Step, makeBook, judgeLog, askBook, lendFindings, numberIn, Lent, Given}
-use Rattle.position_demands.specs.Calls.{Gives, fresh-gives, judge-gives, ask-gives, lend-gives, Ran, numbers, left}
+use Rattle.position_demands.specs.Calls.{Step, judgeLog, Lent, Given}
+use Rattle.position_demands.specs.Calls.{Gives, fresh-gives, judge-gives, ask-gives, lend-gives, Ran, numbers}
+use Rattle.position_demands.specs.Calls.{left}
 use Rattle.position_demands.specs.Calls.{none as no-call, next as a-call}
 use Rattle.position_demands.specs.Demand1.{namedNumber}
 use Rattle.position_demands.specs.Demand2.{logDay, History, daysOf, recorded, history, fullRoom}
 use Rattle.position_demands.specs.Join.{joinLog}
-use Rattle.position_demands.specs.Demand3.{StepJoined, makes, judges, asks, lends, StepsJoined, none, more, roomy}
-use Rattle.position_demands.specs.Demand3.{allRoomy, Accepted, none as none-yet, more as one-more, Fair}
+use Rattle.position_demands.specs.Demand3.{StepJoined, makes, judges, asks, lends, StepsJoined, none, more}
+use Rattle.position_demands.specs.Demand3.{roomy, allRoomy, more as one-more, Fair}
 use Rattle.position_demands.specs.Demand3.{all-accepted, full-size}
 use Rattle.position_demands.proofs.Demand1.{number-named}
 use Rattle.position_demands.proofs.Demand2.{Holds, holds-step}
@@ -70,7 +70,8 @@ module _ (a b : ℕ) (two : Two a b) where
   pub not-short : (log : List ℕ) (room : ℕ) → fullRoom ≤ room → shortFault (logVerdict log) room ≡ 0
   unfolding shortFault verdictOn positionShape
   not-short log room h =
-      sym (pick-no _ _ _ _ (le-ltb room (8 * foundCount (logVerdict log)) (omega (arith, found-most (logVerdict log)))) refl)
+      let most = found-most (logVerdict log) in
+      sym (pick-no _ _ _ _ (le-ltb room (8 * foundCount (logVerdict log)) (omega (arith, most))) refl)
 
   module _ {h h′ : History} {book book′ : List ℕ} (s : Beside a b h h′ book book′) where
     pub joined-holds : Written positionShape (h .from) (map logDay (map (joinLog a b) (h .logs))) book′
@@ -132,7 +133,8 @@ module _ (a b : ℕ) (two : Two a b) where
   choose-by false x x′ y y′ p q = q
 
   choose : (t t′ : Bool) (x x′ y y′ : History) → t′ ≡ t → Alike x x′ → Alike y y′ → Alike (pick t x y) (pick t′ x′ y′)
-  choose t t′ x x′ y y′ e p q = subst (λ (u : Bool). Alike (pick t x y) (pick u x′ y′)) (sym e) (choose-by t x x′ y y′ p q)
+  choose t t′ x x′ y y′ e p q =
+      subst (λ (u : Bool). Alike (pick t x y) (pick u x′ y′)) (sym e) (choose-by t x x′ y y′ p q)
 
   fresh-alike : (rulebook : ℕ) → Alike (record { from = blankAs positionShape rulebook; logs = [] })
       (record { from = blankAs positionShape rulebook; logs = [] })
@@ -147,7 +149,11 @@ module _ (a b : ℕ) (two : Two a b) where
       choose _ _ _ _ h h′ (ap (λ (m : ℕ). eqb m 0) n) (fresh-alike rulebook) k
   alike-step w w′ h h′ (judges {log}) n k =
       choose _ _ _ _ h h′ (ap (λ (m : ℕ). eqb m 0) n)
-      (record { same = k .same; nothing = k .nothing; each = ap (λ (xs : List (List ℕ)). joinLog a b log ∷ xs) (k .each) }) k
+      (record {
+        same = k .same;
+        nothing = k .nothing;
+        each = ap (λ (xs : List (List ℕ)). joinLog a b log ∷ xs) (k .each);
+      }) k
   alike-step w w′ h h′ asks n k = k
   alike-step w w′ h h′ lends n k = k
 
@@ -186,7 +192,8 @@ module _ (a b : ℕ) (two : Two a b) where
       → fullRoom ≤ length (g .after .out)
   unfolding roomy
   out-length (fresh-gives m) r l = l
-  out-length {w} (judge-gives {log} {a} {book} {out} m) r l = go (eqb (judgeFault log (w .book) (length (w .out))) 0) refl
+  out-length {w} (judge-gives {log} {a} {book} {out} m) r l =
+      go (eqb (judgeFault log (w .book) (length (w .out))) 0) refl
     where
       go : (t : Bool) → eqb (judgeFault log (w .book) (length (w .out))) 0 ≡ t → fullRoom ≤ length out
       go true e =

@@ -116,6 +116,7 @@ lowest-id log ladder place e hit there lower =
     let p = positionsOf log in
     let over = overOn p (groupAt One ladder) (familyAt ladder) in
     let before : place < lowestOn p ladder =
-    lt-of-not-le (λ (l : lowestOn p ladder ≤ place). omega (arith, ids-rise log e (lowestOn p ladder) place l there)) in
+    lt-of-not-le
+    (λ (l : lowestOn p ladder ≤ place). omega (arith, ids-rise log e (lowestOn p ladder) place l there)) in
     first-below over (p .contracts) place
     (omega (arith, lowest-first p ladder (sym (offences-counted p ladder) ∙ hit)))

@@ -1,6 +1,6 @@
--- Demand 2 for `positions`: over any list of calls, and over position logs, findings, totals and sanctions are those of
--- the exchanges' texts; a finding is listed exactly when, on some contract, what the group's records sum to is over the
--- limit. The statements; proofs/Demand2 has the theorems under the same names.
+-- Demand 2 for `positions`: over any list of calls, and over position logs, findings, totals and sanctions are those
+-- of the exchanges' texts; a finding is listed exactly when, on some contract, what the group's records sum to is over
+-- the limit. The statements; proofs/Demand2 has the theorems under the same names.
 use mathlib.Core.Path.{_≡_}
 use mathlib.Core.Bool.{true, false}
 use mathlib.Core.List.{List, [], _∷_, map}
@@ -60,7 +60,8 @@ daysOf h = map logDay (h .logs)
 -- what a step adds: a fresh book begins anew, and a log that is accepted is one day more
 unfoldable pub recorded : Lent → Step → History → History
 recorded w (makeBook rulebook) h =
-    pick (eqb (freshFault (length (w .book)) rulebook) 0) (record { from = blankAs positionShape rulebook; logs = [] }) h
+    pick (eqb (freshFault (length (w .book)) rulebook) 0)
+    (record { from = blankAs positionShape rulebook; logs = [] }) h
 recorded w (judgeLog log) h =
     pick (eqb (judgeFault log (w .book) (length (w .out))) 0) (record { from = h .from; logs = log ∷ h .logs }) h
 recorded w (askBook group kind family) h = h
@@ -99,13 +100,15 @@ BookOfDays = (w : Lent) (cs : List Step) (gs : List Given) → SoundRun w cs gs
 
 -- each total is what was carried into the year, and that year's days, among those, that were an offence
 abbrev pub TotalsCounted : Type 0
-TotalsCounted = (w : Lent) (cs : List Step) (gs : List Given) → SoundRun w cs gs → (ladder : ℕ) → ladder < ladders One →
+TotalsCounted = (w : Lent) (cs : List Step) (gs : List Given) → SoundRun w cs gs → (ladder : ℕ)
+    → ladder < ladders One →
     let book = left w gs .book in
     totalAt book ladder ≡ totalOver (since w cs gs .from) (year (lastDate book)) ladder (daysOf (since w cs gs))
 
 -- from a fresh book nothing is carried: each total is the number of the year's offence days
 abbrev pub BlankCarriesNothing : Type 0
-BlankCarriesNothing = (rulebook y ladder : ℕ) → ladder < ladders One → carried (blankAs positionShape rulebook) y ladder ≡ 0
+BlankCarriesNothing = (rulebook y ladder : ℕ) → ladder < ladders One
+    → carried (blankAs positionShape rulebook) y ladder ≡ 0
 
 -- the sanctions in the findings are those of the totals
 abbrev pub SanctionsFound : Type 0

@@ -19,13 +19,15 @@ use Rattle.positions.specs.Log.{Positions, positionsOf, logFault}
 use Rattle.positions.specs.Offences.{heldOf, offence}
 use Rattle.position_demands.specs.Calls.{Step, makeBook, judgeLog, askBook, lendFindings, numberIn, Lent, Given}
 use Rattle.position_demands.specs.Calls.{numbers, Ran, left}
-use Rattle.position_demands.specs.Demand2.{daysOf, since, fullRoom, Judged, JudgesAll, lastFile, accepted, logDay}
+use Rattle.position_demands.specs.Demand2.{daysOf, since, fullRoom, Judged, JudgesAll, lastFile, accepted}
+use Rattle.position_demands.specs.Demand2.{logDay}
 use Rattle.position_demands.specs.Join.{joinLog, Joined}
 
 -- ---- of a day
 -- what is held adds, on either side and on every contract; so do the numbers of accounts
 pub record Added (a b : ℕ) (p p′ : Positions) : Type 0 where
-  pub sums : (side : Position → Lots) (place : ℕ) → heldOf side p′ b place ≡ heldOf side p a place + heldOf side p b place
+  pub sums : (side : Position → Lots) (place : ℕ)
+      → heldOf side p′ b place ≡ heldOf side p a place + heldOf side p b place
   pub none-left : (side : Position → Lots) (place : ℕ) → heldOf side p′ a place ≡ 0
   pub others : (side : Position → Lots) (group place : ℕ) → Other a b group
       → heldOf side p′ group place ≡ heldOf side p group place

@@ -1,5 +1,5 @@
--- Demand 3's words for position logs: "in every day's table give all accounts of group a the number of group b .., as a
--- change of bytes in the lent tables and of nothing else".
+-- Demand 3's words for position logs: "in every day's table give all accounts of group a the number of group b .., as
+-- a change of bytes in the lent tables and of nothing else".
 use mathlib.Core.Path.{_≡_}
 use mathlib.Core.List.{List}
 use Prim.Native.Nat.{ℕ}

@@ -1,5 +1,5 @@
--- 02, K4, either side of each line, as a table of rows over demand 2's own `offence`. Where there is no offence, the row
--- begins with `not`.
+-- 02, K4, either side of each line, as a table of rows over demand 2's own `offence`. Where there is no offence, the
+-- row begins with `not`.
 use mathlib.Core.Path.{_≡_}
 use Prim.Native.Nat.{ℕ, _+_}
 use mathlib.Core.Bool.{Bool, true, not, _&&_}
@@ -10,8 +10,8 @@ use Rattle.rules.specs.Measure.{lots}
 use Rattle.positions.specs.Log.{Positions}
 use Rattle.positions.specs.Offences.{offence}
 
--- a day of one contract, 101, of product 5, with its limits today and the day before; accounts 11 and 12, of group 3 and
--- of a group that is chosen, each with a record of what it holds, long and short
+-- a day of one contract, 101, of product 5, with its limits today and the day before; accounts 11 and 12, of group 3
+-- and of a group that is chosen, each with a record of what it holds, long and short
 unfoldable pub dayWith : (rulebook today previous group12 : ℕ) → (long11 short11 long12 short12 : ℕ) → Positions
 dayWith rulebook today previous group12 long11 short11 long12 short12 = record {
   text = record { rulebook = rulebook };
@@ -49,7 +49,7 @@ lines =
     ∷ over 1 100 200 3 100 0 101 0
     ∷ not (over 1 200 100 3 100 0 100 0)
     ∷ over 2 100 200 3 100 0 50 0
-    -- "A group of two or more accounts", with positions or without: account 12 is of group 4, or of group 3 and holds none
+    -- "A group of two or more accounts", with positions or without: account 12 is of group 4, or of 3 and holds none
     ∷ not (over 2 100 100 4 150 0 0 0)
     ∷ over 2 100 100 3 150 0 0 0
     -- a sum that 16 bits do not hold

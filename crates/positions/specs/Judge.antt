@@ -1,5 +1,5 @@
--- 02, K4: the call that judges a position log. "Refusals: 22 for any fault in the position log ..; then 17, 18, 9, 20 as
--- for a day."
+-- 02, K4: the call that judges a position log. "Refusals: 22 for any fault in the position log ..; then 17, 18, 9, 20
+-- as for a day."
 use Prim.Native.Nat.{ℕ}
 use mathlib.Core.List.{List}
 use lib.ListN.{length}

@@ -1,5 +1,5 @@
--- 02, K4: "A position log, lent whole, has the day log's header with mark "AXP", version 1 and the number of records, up
--- to 16,384, in 14..15; contract entries of 16 bytes ..; the day log's account entries; then records of 16 bytes".
+-- 02, K4: "A position log, lent whole, has the day log's header with mark "AXP", version 1 and the number of records,
+-- up to 16,384, in 14..15; contract entries of 16 bytes ..; the day log's account entries; then records of 16 bytes".
 use Prim.Native.Nat.{ℕ, _+_, _*_}
 use mathlib.Core.Bool.{Bool, _&&_, not}
 use mathlib.Core.List.{List}

@@ -1,6 +1,6 @@
 -- 02, K4: "A group of two or more accounts offends once a day per family if on some contract its long or its short sum
--- is above today's limit and, in rulebook 1, also above the previous one". Over a day's positions, with no bytes and no
--- running totals.
+-- is above today's limit and, in rulebook 1, also above the previous one". Over a day's positions, with no bytes and
+-- no running totals.
 use Prim.Native.Nat.{ℕ}
 use mathlib.Core.Bool.{Bool, false, _&&_, _||_}
 use lib.Dec.{leb, eqb}
@@ -33,7 +33,8 @@ isOf p group place r = eqb (groupOn p r) group && eqb (placeOn p r) place
 
 -- what the group's accounts hold on the contract at a place, all together: an amount of each record, summed
 unfoldable pub heldOf : (Position → Lots) → Positions → (group place : ℕ) → ℕ
-heldOf side p group place = sum (λ k. pick (isOf p group place (p .position k)) (side (p .position k) .0) 0) (p .records)
+heldOf side p group place =
+    sum (λ k. pick (isOf p group place (p .position k)) (side (p .position k) .0) 0) (p .records)
 
 abbrev pub longOf : Positions → (group place : ℕ) → ℕ
 longOf = heldOf (λ r. r .long)
@@ -57,7 +58,8 @@ familyOf p place = family (p .text) (p .contract place .sort) (p .contract place
 -- the contract at a place is of the family, and the group is over its limit there
 unfoldable pub overOn : Positions → (group family′ place : ℕ) → Bool
 overOn p group family′ place =
-    eqb (familyOf p place) family′ && overEither (p .text) (p .contract place) (longOf p group place) (shortOf p group place)
+    eqb (familyOf p place) family′
+    && overEither (p .text) (p .contract place) (longOf p group place) (shortOf p group place)
 
 -- the group offends on the day in the family
 unfoldable pub offence : Positions → (group family′ : ℕ) → Bool

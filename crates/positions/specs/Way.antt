@@ -1,5 +1,5 @@
--- The way, not the meaning: sums kept in cells, and a day's verdict as bytes. proofs/SumLaws and proofs/VerdictLaws show
--- that they are specs/Offences.
+-- The way, not the meaning: sums kept in cells, and a day's verdict as bytes. proofs/SumLaws and proofs/VerdictLaws
+-- show that they are specs/Offences.
 use Prim.Native.Nat.{ℕ, zero, suc, _+_, _*_, _/_}
 use mathlib.Core.Bool.{Bool, _&&_}
 use mathlib.Core.List.{List, _∷_, []}

@@ -26,7 +26,7 @@ unfoldable pub limitSanction : (rung′ : ℕ) → ℕ
 limitSanction rung′ = byThree rung′ 2 7 8 0
 
 -- "rung 1 is 1 (call), rung 2 is 2 (watch list), rung 3 is 3 (no opening, at least one month). In rulebook 1, a group
--- with a member among that day's accounts has 1, 4 (talk with managers), 5 (no opening, at least three months)"; kind 5
+-- with a member among that day's accounts has 1, 4 (talk with managers), 5 (no opening, at least three months)". Kind 5
 -- is a position over the limit; 0 is no sanction
 unfoldable pub sanction : (rulebook kind rung′ : ℕ) → (member : Bool) → ℕ
 sanction rulebook kind rung′ member =

@@ -1,6 +1,5 @@
 use mathlib.Core.Path.{refl}
 use Rattle.positions.specs.Books.{positionShape}
-use borrow.Author.Needs.{needs}
 use Rattle.positions.proofs.books.position_shape.Statement.{statement}
 use Rattle.positions.proofs.books.position_shape.Tie as tie
 

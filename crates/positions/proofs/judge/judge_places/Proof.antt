@@ -1,7 +1,6 @@
-use mathlib.Core.Path.{_≡_, refl, ap, ap₂, _∙_}
+use mathlib.Core.Path.{_≡_, ap, ap₂, _∙_}
 use Prim.Native.Nat.{ℕ, _+_, _-_, _*_}
 use mathlib.Core.List.{List}
-use native.Mathlib.Omega.{arith}
 use lib.ListN.{take, drop}
 use Rattle.wire.proofs.PartLaws.{part-of}
 use Rattle.rules.specs.declared.text.Text.{Text}

@@ -1,7 +1,6 @@
 use mathlib.Core.Path.{_≡_, refl}
 use mathlib.Core.List.{List, []}
 use Prim.Native.Nat.{ℕ, _+_, _-_, _*_}
-use native.Mathlib.Omega.{arith}
 use lib.ListN.{take, drop}
 use Rattle.wire.proofs.PartLaws.{part-of}
 use Rattle.rules.specs.Kinds.{kindsIn}

@@ -1,5 +1,5 @@
 use mathlib.Core.Path.{_≡_, _∙_, ap}
-use Prim.Native.Nat.{_+_, _*_}
+use Prim.Native.Nat.{_*_}
 use Rattle.wire.proofs.PartLaws.{part-of}
 use Rattle.tables.specs.Accounts.{accountsGood}
 use Rattle.positions.specs.Contracts.{limitsGood}

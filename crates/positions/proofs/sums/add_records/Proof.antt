@@ -1,5 +1,5 @@
-use mathlib.Core.Path.{_≡_, refl, sym, ap, _∙_}
-use mathlib.Core.Bool.{true, false}
+use mathlib.Core.Path.{_≡_, refl, ap, _∙_}
+use mathlib.Core.Bool.{true}
 use Prim.Native.Nat.{_-_, _≤_}
 use native.Mathlib.Omega.{arith}
 use lib.ListN.{length}
@@ -9,7 +9,7 @@ use Rattle.positions.specs.Contracts.{limitCount, limitedAt, limitPlace}
 use Rattle.positions.specs.Records.{recordCount, contractBefore, accountBefore, goodAt}
 use Rattle.positions.specs.Way.{longTo, shortTo}
 use Rattle.positions.proofs.EntryLaws.{contract-before, account-before}
-use Rattle.positions.proofs.RecordLaws.{placed, Looked, turn-bad, turn-good, turn-place, turn-cell, side-none}
+use Rattle.positions.proofs.RecordLaws.{Looked, turn-bad, turn-good, turn-place, turn-cell, side-none}
 use Rattle.positions.proofs.RecordLaws.{side-turn, side-most, long-most, short-most, all-bad, all-good}
 use borrow.Author.Needs.{needs}
 use Rattle.positions.proofs.sums.add_records.Statement.{statement}

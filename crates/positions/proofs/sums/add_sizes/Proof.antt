@@ -6,7 +6,7 @@ use lib.ListN.{length, getD}
 use Rattle.tables.specs.Entries.{entries}
 use Rattle.tables.specs.Accounts.{accountAt}
 use Rattle.positions.specs.Way.{addedIn, summed, sizesIn}
-use Rattle.positions.proofs.SumLaws.{summed-none, summed-more, summed-length, summed-most}
+use Rattle.positions.proofs.SumLaws.{summed-none, summed-more, summed-most}
 use borrow.Author.Needs.{needs}
 use Rattle.positions.proofs.sums.add_sizes.Statement.{statement}
 use Rattle.positions.proofs.sums.add_sizes.Tie as tie

@@ -1,5 +1,5 @@
 // The plain Rust side of bench/run: the same day, the same records, and at each record the checks that document 01 asks
-// of take, as request K2 changes them. The day is of version 1.
+// of take, as requests K2 and K5 change them. The day is of version 1.
 const CELLS: usize = 12288;
 
 struct Day {
@@ -123,16 +123,17 @@ fn record_length(version: u16) -> usize {
     }
 }
 
-fn exempt(rulebook: u8, sort: u8, kind: u8, instruction: u8, purpose: u8) -> bool {
-    if rulebook == 1 {
-        instruction >= 2 || purpose == 2 || purpose == 3 || purpose == 4 && kind == 2 && sort == 2
+/// By the instruction 1, by the purpose 2, by both 3; the codes are the rulebook's.
+fn clause(rulebook: u8, sort: u8, kind: u8, instruction: u8, purpose: u8) -> u8 {
+    let (by_instruction, by_purpose) = if rulebook == 1 {
+        (instruction >= 2, purpose == 2 || purpose == 3 || purpose == 4 && kind == 2 && sort == 2)
     } else {
-        instruction == 2
-            || instruction == 1 && kind == 2
-            || purpose == 2
-            || purpose == 3 && kind >= 2
-            || purpose == 4 && kind == 2
-    }
+        (
+            instruction == 2 || instruction == 1 && kind == 2,
+            purpose == 2 || purpose == 3 && kind >= 2 || purpose == 4 && kind == 2,
+        )
+    };
+    by_instruction as u8 + 2 * by_purpose as u8
 }
 
 fn find(part: &[u8], number: u32) -> Option<&[u8]> {
@@ -148,12 +149,13 @@ fn find(part: &[u8], number: u32) -> Option<&[u8]> {
     (u32_at(e, 0) == number).then_some(e)
 }
 
-fn take(day: &mut Day, log: &[u8], r: &[u8], counts: &mut [u32]) -> u32 {
+/// The clauses of the first order and the second, for each kind, or the refusal.
+fn take(day: &mut Day, log: &[u8], r: &[u8], counts: &mut [u32]) -> Result<[[u8; 2]; 3], u32> {
     if r.len() != record_length(day.version) {
-        return 1;
+        return Err(1);
     }
     if counts.len() < CELLS {
-        return 16;
+        return Err(16);
     }
     if log_fault(log) != 0
         || log[3] != day.rulebook
@@ -163,41 +165,45 @@ fn take(day: &mut Day, log: &[u8], r: &[u8], counts: &mut [u32]) -> u32 {
         || u16_at(log, 12) != day.accounts
         || u16_at(log, 14) != day.spare
     {
-        return 19;
+        return Err(19);
     }
     let rulebook = day.rulebook;
     if !record_good(rulebook, r) {
-        return 11;
+        return Err(11);
     }
     let middle = 16 + 8 * day.contracts as usize;
     let id = u16_at(r, 2);
     let Some(place) = log[16..middle].chunks_exact(8).position(|e| u16_at(e, 0) == id) else {
-        return 12;
+        return Err(12);
     };
     let accounts = &log[middle..];
     let Some(first) = find(accounts, u32_at(r, 4)) else {
-        return 13;
+        return Err(13);
     };
     let cell = (first[4] as usize - 1) * 96 + place;
     let contract = &log[16 + 8 * place..24 + 8 * place];
-    let spared = |kind, order: usize| exempt(rulebook, contract[2], kind, r[order], r[order + 1]);
+    let clause_of = |kind, order: usize| clause(rulebook, contract[2], kind, r[order], r[order + 1]);
+    let mut why = [1, 2, 3].map(|kind| [clause_of(kind, 16), 0]);
     let mut raise = [false; 3];
     if r[0] == 1 {
         let Some(second) = find(accounts, u32_at(r, 8)) else {
-            return 13;
+            return Err(13);
         };
-        raise[0] = first[4] == second[4] && !spared(1, 16) && !spared(1, 18);
+        for kind in 1..=3 {
+            why[kind - 1][1] = clause_of(kind as u8, 18);
+        }
+        raise[0] = first[4] == second[4] && why[0] == [0, 0];
     } else {
         let (five, four) = (5 * u32_at(r, 12) as u64, 4 * u32_at(contract, 4) as u64);
         let large = if rulebook == 1 { five > four } else { five >= four };
-        raise[1] = !spared(2, 16);
-        raise[2] = large && !spared(3, 16);
+        raise[1] = why[1][0] == 0;
+        raise[2] = large && why[2][0] == 0;
     }
     if day.taken >= 1_000_000 {
-        return 14;
+        return Err(14);
     }
     if (0..3).any(|k| raise[k] && counts[cell + 32 * k] > day.taken) {
-        return 19;
+        return Err(19);
     }
     for k in 0..3 {
         if raise[k] {
@@ -205,7 +211,7 @@ fn take(day: &mut Day, log: &[u8], r: &[u8], counts: &mut [u32]) -> u32 {
         }
     }
     day.taken += 1;
-    0
+    Ok(why)
 }
 
 fn tables() -> Vec<u8> {
@@ -235,11 +241,11 @@ fn draw(row: &mut [u8; 20], seed: u32) {
     row[2..4].copy_from_slice(&((seed / 65536 % 32 + 1) as u16).to_le_bytes());
     row[4..8].copy_from_slice(&(7 * (seed / 4096 % 512 + 1)).to_le_bytes());
     row[12..16].copy_from_slice(&(seed / 1024 % 1000 + 1).to_le_bytes());
-    row[16..18].copy_from_slice(&[1, 1]);
+    row[16..18].copy_from_slice(&[1, (seed / 256 % 4 + 1) as u8]);
     if trade {
         row[0] = 1;
         row[8..12].copy_from_slice(&(7 * (seed / 2048 % 512 + 1)).to_le_bytes());
-        row[18..20].copy_from_slice(&[1, 1]);
+        row[18..20].copy_from_slice(&[1, (seed / 64 % 4 + 1) as u8]);
     } else {
         row[0] = 2;
         row[8..12].fill(0);
@@ -253,14 +259,17 @@ fn main() {
     let mut day = Day { rulebook: 1, version: 1, date: 20240305, contracts: 32, accounts: 512, spare: 0, taken: 0 };
     let mut row = [0u8; 20];
     let mut seed = 1u32;
-    let mut refused = 0;
+    let (mut refused, mut clauses) = (0, 0);
     for _ in 0..1_000_000 {
         seed = seed.wrapping_mul(1664525).wrapping_add(1013904223);
         draw(&mut row, seed);
-        refused = take(&mut day, std::hint::black_box(&t), &row, &mut counts);
-        if refused != 0 {
-            break;
+        match take(&mut day, std::hint::black_box(&t), &row, &mut counts) {
+            Ok(why) => clauses += why.iter().flatten().map(|&x| x as u64).sum::<u64>(),
+            Err(number) => {
+                refused = number;
+                break;
+            }
         }
     }
-    println!("{} {}", refused, counts.iter().map(|&x| x as u64).sum::<u64>());
+    println!("{} {} {}", refused, counts.iter().map(|&x| x as u64).sum::<u64>(), clauses);
 }

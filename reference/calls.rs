@@ -1,10 +1,11 @@
 //! The six calls (document 01, "The calls and their refusals"), on plain data. A refusal changes nothing: each call
 //! makes all its tests first, in the document's order, and then writes. Those on a book alone are of either book.
 use crate::book::{self, Form, DAYS};
+use crate::counted::Counted;
 use crate::dates;
 use crate::refusal::Refusal;
 use crate::rules::{self, FAMILIES, GROUPS, KINDS, PLACES};
-use crate::tables::{self, Contract, Header, Record, Tables};
+use crate::tables::{self, Contract, Header, Tables};
 
 pub const CELLS: usize = GROUPS * KINDS * PLACES;
 pub const FINDING: usize = 8;
@@ -87,40 +88,21 @@ pub fn cell(group: usize, kind: usize, place: usize) -> usize {
     ((group - 1) * KINDS + (kind - 1)) * PLACES + place
 }
 
-pub fn take(state: &mut State, tables: &[u8], record: &[u8], counts: &mut [u32]) -> Result<(), Refusal> {
+/// What the record counts as, with the clauses that take passes on.
+pub fn take(state: &mut State, tables: &[u8], record: &[u8], counts: &mut [u32]) -> Result<Counted, Refusal> {
     let (day, tables) = check_start(state, tables, record, counts)?;
-    let record = tables::record(record, day.header.rulebook)?;
-    let contract = tables.contract(record.contract).ok_or(Refusal::NoContract)?;
-    let raised = cells_raised(&tables, &record, contract)?;
+    let counted = Counted::of(&tables, tables::record(record, day.header.rulebook)?)?;
     if day.taken >= MOST_RECORDS {
         return Err(Refusal::Full);
     }
-    if raised.iter().flatten().any(|&cell| counts[cell] > day.taken) {
+    if counted.cells().any(|cell| counts[cell] > day.taken) {
         return Err(Refusal::CellsChanged);
     }
-    for &cell in raised.iter().flatten() {
+    for cell in counted.cells() {
         counts[cell] += 1;
     }
     *state = State::Open(Day { taken: day.taken + 1, ..day });
-    Ok(())
-}
-
-/// The cells that the record counts in: at most two, for a cancel of kinds 2 and 3.
-fn cells_raised(tables: &Tables, record: &Record, contract: Contract) -> Result<[Option<usize>; 2], Refusal> {
-    let rulebook = tables.header.rulebook;
-    let first = tables.account(record.first).ok_or(Refusal::NoAccount)?;
-    let counts_for = |kind, order: usize| {
-        let (instruction, purpose) = record.orders[order];
-        !rules::is_exempt(rulebook, contract.contract_type, kind, instruction, purpose)
-    };
-    let at = |kind| cell(first.group as usize, kind, contract.place);
-    if record.is_trade {
-        let second = tables.account(record.second).ok_or(Refusal::NoAccount)?;
-        let is_self_trade = first.group == second.group && counts_for(1, 0) && counts_for(1, 1);
-        return Ok([is_self_trade.then(|| at(1)), None]);
-    }
-    let is_large = rules::is_large(rulebook, record.lots, contract.largest);
-    Ok([counts_for(2, 0).then(|| at(2)), (is_large && counts_for(3, 0)).then(|| at(3))])
+    Ok(counted)
 }
 
 pub struct Finding {

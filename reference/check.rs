@@ -4,6 +4,7 @@ use crate::both_desks::both_desks;
 use crate::broker_edges::broker_edges;
 use crate::build::Day;
 use crate::cases::{Case, Input};
+use crate::clause_edges::clause_edges;
 use crate::clerk_edges::{clerk_edges, example_day, WORKED_EXAMPLE_TEXT};
 use crate::compare::{compare_all, Bench, Difference};
 use crate::desk;
@@ -33,6 +34,10 @@ use crate::stage::Stage;
 use crate::starting::{starting, starting_a_clerk};
 use crate::system_faults::system_faults;
 use crate::unusable::{replay_streams, unusable};
+use crate::why_edges::why_edges;
+use crate::why_generate::random_why_case;
+use crate::why_lines::why_lines;
+use crate::why_streams::why_streams;
 use crate::years::{some_year, Year};
 use std::fmt::Display;
 use std::path::Path;
@@ -40,6 +45,7 @@ use std::process::ExitCode;
 
 const RANDOM_CASES: usize = 3_000;
 const RANDOM_POSITION_CASES: usize = 640;
+const RANDOM_WHY_CASES: usize = 480;
 const YEARS: usize = 64;
 const POSITION_YEARS: usize = 24;
 const SHOWN: usize = 5;
@@ -62,6 +68,7 @@ fn cases_of(seed: u64) -> Vec<Case> {
     let mut all = edges(&mut Random::of_case(seed, 1));
     all.extend(broker_edges(&mut Random::of_case(seed, 4)));
     all.extend(sheet_edges());
+    all.extend(clause_edges());
     all.extend(script_edges());
     all.extend(clerk_edges(&mut Random::of_case(seed, 2)));
     all.extend((0..RANDOM_CASES).map(|i| random_case(&mut Random::of_case(seed, 1_000 + i as u64), i)));
@@ -70,6 +77,9 @@ fn cases_of(seed: u64) -> Vec<Case> {
     all.extend(position_clerk_edges(&mut Random::of_case(seed, 6)));
     let random_positions = |i| random_position_case(&mut Random::of_case(seed, 50_000 + i as u64), i);
     all.extend((0..RANDOM_POSITION_CASES).map(random_positions));
+    all.extend(why_lines());
+    all.extend(why_edges(&mut Random::of_case(seed, 7)));
+    all.extend((0..RANDOM_WHY_CASES).map(|i| random_why_case(&mut Random::of_case(seed, 60_000 + i as u64), i)));
     all
 }
 
@@ -89,8 +99,10 @@ fn run_seed(label: &str, seed: u64, programs: &Programs, folder: &Path, score: &
         cases.extend(large_cases(&mut Random::of_case(seed, 3)));
     }
     let replays = cases.iter().filter(|case| matches!(case.input, Input::Replay(_))).count();
+    let whys = cases.iter().filter(|case| matches!(case.input, Input::Why { .. })).count();
+    let clerks = cases.len() - replays - whys;
     let (tally, differences) = compare_all(&Bench { programs, folder, label }, &cases);
-    println!("\n{label} seed {seed}: {} cases of replay, {} of the two clerks", replays, cases.len() - replays);
+    println!("\n{label} seed {seed}: {replays} cases of replay, {clerks} of the two clerks, {whys} of why");
     let (reached, missed) = tally.print(label == "fixed");
     println!("{} cases differ", differences.len());
     show(&differences, folder, label);
@@ -232,6 +244,7 @@ fn check_the_rest(stage: &Stage, score: &mut Score) {
     check_each("both desks in one folder", both_desks(stage), score);
     check_each("the exemptions as a sheet", sheet(stage), score);
     check_each("streams that cannot be used", replay_streams(stage), score);
+    check_each("why with other words and streams", why_streams(stage), score);
     check_each("bin/run", starting(stage), score);
     check_each("installed", installed(stage), score);
 }

@@ -2,90 +2,19 @@
 //! over the file and standard input.
 use crate::calls::{self, Finding, State, CELLS, FINDING};
 use crate::desk::Desk;
+use crate::log::{read_tables, Reader, Stop};
 use crate::positions;
-use crate::refusal::Refusal;
 use crate::rules::{FAMILIES, GROUPS};
-use crate::tables::{record_length, Header, HEADER};
+use crate::tables::{record_length, Header};
 use std::fmt::Write as _;
 use std::fs::{self, File};
 use std::io::{self, Read, Write};
-
-/// Where a log stopped. A log can be refused with 1 by the clerk alone: cut off, or with bytes after its end.
-#[derive(Clone, Copy, PartialEq, Eq, PartialOrd, Ord, Debug)]
-pub enum Stop {
-    Call(&'static str, Refusal),
-    CutRecord,
-    NoEnd,
-    AfterEnd,
-}
-
-impl Stop {
-    pub fn number(self) -> u8 {
-        match self {
-            Stop::Call(_, refusal) => refusal.number(),
-            Stop::CutRecord | Stop::NoEnd | Stop::AfterEnd => 1,
-        }
-    }
-}
 
 pub struct Outcome {
     pub text: String,
     /// The book to write back; none where the log was refused.
     pub book: Option<Vec<u8>>,
     pub stop: Option<Stop>,
-}
-
-/// The log in pieces: bytes are asked of the source only when those at hand do not do.
-struct Reader<R> {
-    source: R,
-    buffer: Vec<u8>,
-    start: usize,
-    end: usize,
-}
-
-const PIECE: usize = 1 << 16;
-
-impl<R: Read> Reader<R> {
-    fn new(source: R) -> Reader<R> {
-        Reader { source, buffer: vec![0; PIECE], start: 0, end: 0 }
-    }
-
-    /// The next n bytes, or what there is of them at the end of the log; n is at most a piece.
-    fn next(&mut self, n: usize) -> io::Result<&[u8]> {
-        if self.end - self.start < n {
-            self.fill(n)?;
-        }
-        let from = self.start;
-        self.start = self.end.min(from + n);
-        Ok(&self.buffer[from..self.start])
-    }
-
-    fn fill(&mut self, n: usize) -> io::Result<()> {
-        self.buffer.copy_within(self.start..self.end, 0);
-        self.end -= self.start;
-        self.start = 0;
-        while self.end < n {
-            match self.source.read(&mut self.buffer[self.end..]) {
-                Ok(0) => return Ok(()),
-                Ok(more) => self.end += more,
-                Err(error) if error.kind() == io::ErrorKind::Interrupted => {}
-                Err(error) => return Err(error),
-            }
-        }
-        Ok(())
-    }
-}
-
-/// The header with its tables, or what there is of them. A header that opening refuses needs no tables.
-fn read_tables<R: Read>(log: &mut Reader<R>) -> io::Result<Vec<u8>> {
-    let mut tables = log.next(HEADER)?.to_vec();
-    if tables.len() == HEADER {
-        let header = Header::read(&tables);
-        if header.contracts <= 32 && header.accounts <= 512 {
-            tables.extend_from_slice(log.next(header.length() - HEADER)?);
-        }
-    }
-    Ok(tables)
 }
 
 /// The day's findings, or where it stopped. The book is a copy: it becomes the file's only at the end.
@@ -101,10 +30,10 @@ fn judge<R: Read>(book: &mut [u8], source: R) -> io::Result<Result<(Header, Vec<
     let header = Header::read(&tables);
     let length = record_length(header.version);
     loop {
-        let record = log.next(length)?;
-        if record.len() < length {
-            return Ok(Err(if record.is_empty() { Stop::NoEnd } else { Stop::CutRecord }));
-        }
+        let record = match log.record(length)? {
+            Ok(record) => record,
+            Err(stop) => return Ok(Err(stop)),
+        };
         if record[0] == 3 {
             break match calls::end(&mut state, &tables, record, book, &counts, &mut findings) {
                 Err(refusal) => Ok(Err(Stop::Call("end", refusal))),
@@ -118,10 +47,14 @@ fn judge<R: Read>(book: &mut [u8], source: R) -> io::Result<Result<(Header, Vec<
     }
 }
 
-fn printed(mark: &str, header: &Header, findings: &[Finding]) -> String {
-    let mut text = String::new();
+/// The line above what is printed of a day.
+pub fn heading(mark: &str, header: &Header) -> String {
     let exchange = if header.rulebook == 1 { "DCE" } else { "CFX" };
-    writeln!(text, "{mark} {} {exchange}", header.date).unwrap();
+    format!("{mark} {} {exchange}\n", header.date)
+}
+
+fn printed(mark: &str, header: &Header, findings: &[Finding]) -> String {
+    let mut text = heading(mark, header);
     for Finding { group, kind, family, sanction, total, contract } in findings {
         writeln!(text, "{group} {kind} {family} {total} {sanction} {contract}").unwrap();
     }
@@ -135,7 +68,7 @@ type Judged = Result<(Header, Vec<Finding>), Stop>;
 fn outcome(mark: &str, book: Vec<u8>, judged: Judged) -> Outcome {
     match judged {
         Ok((header, findings)) => Outcome { text: printed(mark, &header, &findings), book: Some(book), stop: None },
-        Err(stop) => Outcome { text: format!("refused {}\n", stop.number()), book: None, stop: Some(stop) },
+        Err(stop) => Outcome { text: stop.line(), book: None, stop: Some(stop) },
     }
 }
 

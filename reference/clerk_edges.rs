@@ -67,7 +67,8 @@ pub fn long_log() -> Vec<u8> {
 
 pub const WORKED_EXAMPLE_TEXT: &str = "AXD 20240305 DCE\n3 1 0 2 2 101\nfindings 1\n";
 
-fn log_bytes(scene: &Scene, records: u32) -> Vec<u8> {
+/// The scene's record so many times, over its tables.
+pub fn log_bytes(scene: &Scene, records: u32) -> Vec<u8> {
     let mut bytes = scene.tables.clone();
     bytes.extend(scene.record.repeat(records as usize));
     bytes.extend(build::end_record(scene.version, records));

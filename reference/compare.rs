@@ -1,11 +1,13 @@
 //! Runs cases on the reference and on the programs, and compares.
-use crate::cases::{BookFile, Case, Feed, Input};
-use crate::clerk::Stop;
+use crate::cases::{BookFile, Case, Feed, Input, Intent};
 use crate::desk::Desk;
+use crate::log::Stop;
+use crate::newbook::holds;
 use crate::parallel::in_parallel;
 use crate::replay;
 use crate::run::{command, run, Programs};
 use crate::tally::Tally;
+use crate::why;
 use std::fs;
 use std::io;
 use std::path::{Path, PathBuf};
@@ -54,6 +56,10 @@ fn keep(bench: &Bench, i: usize, case: &Case, what: &str) {
                 let write = |(k, (log, _)): (usize, &(Vec<u8>, Feed))| fs::write(folder.join(format!("log-{k}")), log);
                 logs.iter().enumerate().try_for_each(write)
             }
+            Input::Why { words, log, .. } => {
+                fs::write(folder.join("words"), words.join(" "))?;
+                fs::write(folder.join("log"), log)
+            }
         }
     });
     if let Err(error) = written {
@@ -81,8 +87,9 @@ fn compare(programs: &Programs, scratch: &Path, case: &Case, tally: &mut Tally) 
                 _ => None,
             };
             let at = At { programs, desk, scratch };
-            at.compare_logs(start, logs, tally).and_then(|given| meets_intent(case, &given))
+            at.compare_logs(start, logs, tally).and_then(|numbers| meets_intent(case, numbers, ""))
         }
+        Input::Why { words, log, feed } => compare_why(programs, scratch, case, (words, log, *feed), tally),
     }
 }
 
@@ -95,9 +102,10 @@ fn compare_replay(
 ) -> Result<(), String> {
     let expected = replay::replay(script);
     expected.reached.iter().for_each(|&(call, refusal)| tally.reached(call, refusal));
+    expected.text.lines().for_each(|line| tally.clauses(line));
     tally.close_case();
     let second_word = |line: &str| line.split(' ').nth(1).unwrap_or("").to_string();
-    meets_intent(case, &expected.text.lines().map(second_word).collect::<Vec<_>>())?;
+    meets_intent(case, expected.text.lines().map(second_word).collect(), &expected.text)?;
     fs::create_dir_all(scratch).map_err(|e| e.to_string())?;
     let words = programs.words("replay");
     let output = run(command(&words, scratch), scratch, script, Feed::Pipe).map_err(|e| e.to_string())?;
@@ -108,14 +116,67 @@ fn compare_replay(
 }
 
 /// The reference itself against what the case was made for.
-fn meets_intent(case: &Case, given: &[String]) -> Result<(), String> {
-    let wanted: Option<Vec<String>> = case.numbers.as_ref().map(|numbers| numbers.iter().map(u8::to_string).collect());
-    match wanted {
-        Some(wanted) if given != wanted => {
-            Err(format!("the reference gives {given:?} where the case was made for {wanted:?}"))
-        }
-        _ => Ok(()),
+fn meets_intent(case: &Case, numbers: Vec<String>, text: &str) -> Result<(), String> {
+    let (given, wanted) = match &case.intent {
+        None => return Ok(()),
+        Some(Intent::Numbers(wanted)) => (numbers, &wanted.iter().map(u8::to_string).collect()),
+        Some(Intent::Ends(wanted)) => (text.lines().map(replay::after_checksums).collect(), wanted),
+        Some(Intent::Lines(wanted)) => (text.lines().map(String::from).collect(), wanted),
+    };
+    if given == *wanted {
+        return Ok(());
     }
+    Err(format!("the reference gives {given:?} where the case was made for {wanted:?}"))
+}
+
+/// Both streams are the reference's, and nothing is left in the folder.
+fn compare_why(
+    programs: &Programs,
+    scratch: &Path,
+    case: &Case,
+    (words, mut log, feed): (&[String], &[u8], Feed),
+    tally: &mut Tally,
+) -> Result<(), String> {
+    let mut program = command(&programs.words("why"), scratch);
+    program.args(words);
+    let words: Vec<&str> = words.iter().map(String::as_str).collect();
+    let whole = log;
+    let expected = why::why(&words, &mut log).map_err(|e| e.to_string())?;
+    if expected.error.is_empty() {
+        count_stop(tally, "why", expected.stop, whole);
+        tally.close_case();
+    }
+    meets_intent(case, vec![number_of(expected.stop)], &expected.text)?;
+    let _ = fs::remove_dir_all(scratch);
+    fs::create_dir_all(scratch).map_err(|e| e.to_string())?;
+    let output = run(program, scratch, whole, feed).map_err(|e| e.to_string())?;
+    let is_good = output.status.success() || !expected.error.is_empty();
+    let is_same = output.stdout == expected.text.as_bytes() && output.stderr == expected.error.as_bytes();
+    if is_good && is_same {
+        return holds(scratch, &[]);
+    }
+    let [given, error] = [output.stdout, output.stderr].map(|bytes| String::from_utf8_lossy(&bytes).into_owned());
+    let first = expected.text.lines().zip(given.lines()).find(|(wanted, line)| wanted != line);
+    let given = shortened(&given);
+    Err(format!("{}, reference and program {first:?}, printed {given:?}, error {error:?}", output.status))
+}
+
+/// 0 where nothing was refused.
+fn number_of(stop: Option<Stop>) -> String {
+    stop.map_or(0, Stop::number).to_string()
+}
+
+/// How a program ended with a log. A position log has one version.
+fn count_stop(tally: &mut Tally, program: &str, stop: Option<Stop>, log: &[u8]) {
+    let (call, number, note) = match stop {
+        None if log.starts_with(b"AXP") => ("accepted", 0, ""),
+        None => ("accepted", 0, if log[4] == 1 { " (version 1)" } else { " (version 2)" }),
+        Some(Stop::Call(call, refusal)) => (call, refusal.number(), refusal.note()),
+        Some(Stop::CutRecord) => ("log", 1, " (cut-off record)"),
+        Some(Stop::NoEnd) => ("log", 1, " (no end record)"),
+        Some(Stop::AfterEnd) => ("log", 1, " (bytes after the end)"),
+    };
+    tally.program(program, call, number, note);
 }
 
 fn first_difference(expected: &replay::Outcome, given: &[u8]) -> String {
@@ -153,8 +214,8 @@ impl At<'_> {
         let mut numbers = Vec::new();
         for (k, (log, feed)) in logs.iter().enumerate() {
             let expected = self.desk.on(book.as_deref(), log);
-            numbers.push(expected.stop.map_or(0, Stop::number).to_string());
-            self.count_stop(tally, expected.stop, log);
+            numbers.push(number_of(expected.stop));
+            count_stop(tally, self.desk.name, expected.stop, log);
             book = expected.book.or(book);
             let result = self
                 .compare_log(&expected.text, log, *feed)
@@ -168,19 +229,6 @@ impl At<'_> {
 
     pub fn book(&self) -> PathBuf {
         self.scratch.join(self.desk.file)
-    }
-
-    /// A position log has one version.
-    fn count_stop(&self, tally: &mut Tally, stop: Option<Stop>, log: &[u8]) {
-        let (call, number, note) = match stop {
-            None if self.desk.mark == "AXP" => ("accepted", 0, ""),
-            None => ("accepted", 0, if log[4] == 1 { " (version 1)" } else { " (version 2)" }),
-            Some(Stop::Call(call, refusal)) => (call, refusal.number(), refusal.note()),
-            Some(Stop::CutRecord) => ("log", 1, " (cut-off record)"),
-            Some(Stop::NoEnd) => ("log", 1, " (no end record)"),
-            Some(Stop::AfterEnd) => ("log", 1, " (bytes after the end)"),
-        };
-        tally.clerk(self.desk, call, number, note);
     }
 
     fn compare_log(&self, text: &str, log: &[u8], feed: Feed) -> Result<(), String> {

@@ -79,11 +79,22 @@ pub fn from_other_brokers(random: &mut Random, record: &Record) -> Record {
     record
 }
 
+fn instructions(rulebook: u8) -> &'static [u8] {
+    if rulebook == 1 {
+        &[1, 2, 3, 4, 5, 6]
+    } else {
+        &[1, 2, 5, 6]
+    }
+}
+
+pub fn any_order(random: &mut Random, rulebook: u8) -> Order {
+    (random.pick(instructions(rulebook)), random.within(1, 4) as u8, some_broker(random))
+}
+
 /// Mostly a plain or FOK order of an ordinary purpose, so that days reach their numbers.
 pub fn some_order(random: &mut Random, rulebook: u8) -> Order {
-    let instructions: &[u8] = if rulebook == 1 { &[1, 2, 3, 4, 5, 6] } else { &[1, 2, 5, 6] };
     let usual = if rulebook == 1 { 1 } else { random.pick(&[1, 5, 6]) };
-    let instruction = if random.one_in(5) { random.pick(instructions) } else { usual };
+    let instruction = if random.one_in(5) { random.pick(instructions(rulebook)) } else { usual };
     let purpose = if random.one_in(5) { random.within(1, 4) as u8 } else { 1 };
     (instruction, purpose, some_broker(random))
 }

@@ -1,6 +1,6 @@
 //! Cases at the edges: each fault alone, each pair of faults that tests an order, either side of every number, the
 //! turns of years, rungs, full sizes. They are the same for every seed but for what does not matter to the edge. Those
-//! of request K2 alone are in `broker_edges`.
+//! of request K2 alone are in `broker_edges`, of K3 in `sheet_edges`, of K5 in `clause_edges`.
 use crate::build::{self, Account, Contract, Day, Record, Script, Total};
 use crate::cases::{replay, replay_expecting, Case};
 use crate::dates;
@@ -31,7 +31,7 @@ pub fn edges(random: &mut Random) -> Vec<Case> {
     all
 }
 
-const RULEBOOKS_AND_VERSIONS: [(u8, u16); 4] = [(1, 1), (2, 1), (1, 2), (2, 2)];
+pub const RULEBOOKS_AND_VERSIONS: [(u8, u16); 4] = [(1, 1), (2, 1), (1, 2), (2, 2)];
 
 /// Each fault in both rulebooks and both versions. Only version 2 has brokers.
 fn single_faults(random: &mut Random, call: &str) -> Vec<Case> {
@@ -349,13 +349,13 @@ fn four_fifths() -> Vec<Case> {
     all
 }
 
-/// Every instruction with every purpose, as a trade's first and second order and as a small and a large cancel, on
-/// futures and, in rulebook 1, on an option.
+/// Every instruction with every purpose, as a trade's first and second order, in one group and between two, as both
+/// orders, and as a small and a large cancel, on futures and, in rulebook 1, on an option.
 fn exemptions() -> Vec<Case> {
     let mut all = Vec::new();
     for (rulebook, version) in RULEBOOKS_AND_VERSIONS {
         let option = if rulebook == 1 { 2 } else { 1 };
-        let day = small_day(rulebook, 20240305, &[(1, 0), (option, 1)], &[(3, 1), (3, 2)]);
+        let day = small_day(rulebook, 20240305, &[(1, 0), (option, 1)], &[(3, 1), (3, 2), (4, 1)]);
         let day = Day { version, ..day };
         for instruction in 0..=7 {
             let mut records = Vec::new();
@@ -370,10 +370,18 @@ fn exemptions() -> Vec<Case> {
     all
 }
 
-fn records_with(version: u16, contract: u16, order: build::Order) -> [Vec<u8>; 4] {
-    let trade = |orders| Record::Trade { contract, buyer: 11, seller: 12, lots: 1, orders }.bytes(version);
-    let cancel = |lots| Record::Cancel { contract, account: 12, lots, order }.bytes(version);
-    [trade([order, (5, 1, 8)]), trade([(1, 1, 8), order]), cancel(1), cancel(1_000)]
+fn records_with(version: u16, contract: u16, order: build::Order) -> Vec<Vec<u8>> {
+    let trades = [12, 13].into_iter().flat_map(|seller| {
+        [[order, (5, 1, 8)], [(1, 1, 8), order], [order, order]].map(|orders| Record::Trade {
+            contract,
+            buyer: 11,
+            seller,
+            lots: 1,
+            orders,
+        })
+    });
+    let cancels = [1, 1_000].map(|lots| Record::Cancel { contract, account: 12, lots, order });
+    trades.chain(cancels).map(|record| record.bytes(version)).collect()
 }
 
 /// Cancels of market making by rulebook, contract type, lots of 1,000 and times. With no room for a finding, 20 tells

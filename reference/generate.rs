@@ -252,7 +252,7 @@ fn damaged_log(random: &mut Random, i: usize) -> Case {
 }
 
 /// A damaged record in the place of one in the log, of the same length: what follows stays in step.
-fn damage_record(random: &mut Random, day: &Day, log: &mut [u8]) {
+pub fn damage_record(random: &mut Random, day: &Day, log: &mut [u8]) {
     let length = build::record_length(day.version);
     let at = day.tables().len() + length * random.below(day.taken() as usize + 1);
     let place = &mut log[at..at + length];

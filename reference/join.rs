@@ -28,7 +28,9 @@ pub fn cells(day: &Day, tables: &[u8]) -> Result<Vec<u32>, Refusal> {
     calls::open(&mut state, tables, &book, &mut counts)?;
     for (record, times) in &day.records {
         let bytes = record.bytes(day.version);
-        (0..*times).try_for_each(|_| calls::take(&mut state, tables, &bytes, &mut counts))?;
+        for _ in 0..*times {
+            calls::take(&mut state, tables, &bytes, &mut counts)?;
+        }
     }
     Ok(counts)
 }
@@ -58,7 +60,7 @@ pub fn trades_between(year: &Year, day: &Day) -> [[u32; PLACES]; 2] {
             let place = day.contracts.iter().position(|listed| listed.id == *contract);
             let place = place.expect("the record's contract is in the tables");
             let contract_type = day.contracts[place].contract_type;
-            let is_exempt = |order: &Order| rules::is_exempt(day.rulebook, contract_type, 1, order.0, order.1);
+            let is_exempt = |order: &Order| rules::clause([day.rulebook, 0, contract_type, 1, order.0, order.1]) != 0;
             between[orders.iter().any(is_exempt) as usize][place] += times;
         }
     }

@@ -1,6 +1,6 @@
 //! Logs of a million records over full tables, with as many findings as a million records can bring.
 use crate::build::{self, Day, Record, Total};
-use crate::cases::{clerk_expecting, BookFile, Case, Feed};
+use crate::cases::{clerk_expecting, expecting, why, BookFile, Case, Feed};
 use crate::edges::full_day;
 use crate::random::Random;
 
@@ -61,9 +61,22 @@ pub fn million_log(random: &mut Random, version: u16) -> (Vec<u8>, Vec<u8>) {
     (book, log)
 }
 
-/// All tails after a log of version 1; in version 2 the first two, as each is a long run.
+/// All tails after a log of version 1; in version 2 the first two, as each is a long run. Then two of why.
 pub fn large_cases(random: &mut Random) -> Vec<Case> {
-    [(1, 5), (2, 2)].into_iter().flat_map(|(version, tails)| with_tails(random, version, tails)).collect()
+    let mut all: Vec<Case> =
+        [(1, 5), (2, 2)].into_iter().flat_map(|(version, tails)| with_tails(random, version, tails)).collect();
+    all.extend([(1, &["1000000"][..], 0), (2, &[], 14)].map(|asked| why_of_a_million(random, asked)));
+    all
+}
+
+/// The last record of a million by its number; or all that were spared, with one record too many.
+fn why_of_a_million(random: &mut Random, (version, words, number): (u16, &[&str], u8)) -> Case {
+    let (_, mut log) = million(random, version);
+    if number == 14 {
+        log.extend_from_within(log.len() - build::record_length(version)..);
+    }
+    log.extend(build::end_record(version, MILLION as u32));
+    expecting(why(format!("why {words:?} of a million records"), words, log, Feed::Uneven), vec![number])
 }
 
 fn with_tails(random: &mut Random, version: u16, most: usize) -> Vec<Case> {

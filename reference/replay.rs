@@ -1,6 +1,7 @@
 //! The replay interpreter: a script of calls, a line after each.
 use crate::book::{DAYS, POSITIONS};
 use crate::calls::{self, Day, State};
+use crate::counted::Clauses;
 use crate::positions;
 use crate::refusal::Refusal;
 use crate::rules;
@@ -76,7 +77,7 @@ impl<'a> Script<'a> {
 /// A step's line: nothing for a step that sets something up.
 enum Step {
     Quiet,
-    Exemption(bool),
+    Exemption(u8),
     Call { letter: char, call: &'static str, answer: Result<String, Refusal> },
 }
 
@@ -96,9 +97,9 @@ pub fn replay(script: &[u8]) -> Outcome {
                 break;
             }
             Some(Step::Quiet) => {}
-            Some(Step::Exemption(is_spared)) => {
+            Some(Step::Exemption(clause)) => {
                 outcome.steps.push(at);
-                writeln!(outcome.text, "x {}", is_spared as u8).unwrap();
+                writeln!(outcome.text, "x {clause}").unwrap();
             }
             Some(Step::Call { letter, call, answer }) => {
                 outcome.steps.push(at);
@@ -121,7 +122,7 @@ impl Machine {
         match letter {
             b'f' | b'o' | b't' | b'm' | b'e' | b'a' | b'q' => self.call(letter as char, script),
             b'g' | b'p' | b'r' => self.position_call(letter as char, script),
-            b'x' => Some(Step::Exemption(rules::is_spared(script.bytes(6)?.try_into().unwrap()))),
+            b'x' => Some(Step::Exemption(rules::clause(script.bytes(6)?.try_into().unwrap()))),
             _ => self.set(letter, script).map(|()| Step::Quiet),
         }
     }
@@ -164,14 +165,14 @@ impl Machine {
                 let answer = calls::open(&mut self.state, &self.tables, &self.book, &mut self.counts);
                 ("open", answer.map(nothing))
             }
-            't' => ("take", self.take_often(1, script.counted(LONGEST_RECORD)?).map(nothing)),
+            't' => ("take", self.take_often(1, script.counted(LONGEST_RECORD)?).map(shown_clauses)),
             'm' => {
                 let times = script.u32()?;
                 let record = script.counted(LONGEST_RECORD)?;
                 if times == 0 {
                     return None;
                 }
-                ("take", self.take_often(times, record).map(nothing))
+                ("take", self.take_often(times, record).map(shown_clauses))
             }
             'e' => ("end", self.end(script.counted(LONGEST_RECORD)?).map(|n| format!(" {n}"))),
             'a' => ("abandon", calls::abandon(&mut self.state).map(nothing)),
@@ -203,8 +204,16 @@ impl Machine {
         Some(Step::Call { letter, call, answer })
     }
 
-    fn take_often(&mut self, times: u32, record: &[u8]) -> Result<(), Refusal> {
-        (0..times).try_for_each(|_| calls::take(&mut self.state, &self.tables, record, &mut self.counts))
+    /// At least once. The clauses are those of the last call.
+    fn take_often(&mut self, times: u32, record: &[u8]) -> Result<Clauses, Refusal> {
+        for _ in 1..times {
+            self.take(record)?;
+        }
+        self.take(record)
+    }
+
+    fn take(&mut self, record: &[u8]) -> Result<Clauses, Refusal> {
+        calls::take(&mut self.state, &self.tables, record, &mut self.counts).map(|counted| counted.clauses)
     }
 
     fn end(&mut self, record: &[u8]) -> Result<usize, Refusal> {
@@ -244,6 +253,16 @@ fn shown(state: &State) -> String {
     };
     let Header { rulebook, version, date, contracts, accounts, filler } = header;
     format!("open {rulebook} {version} {date} {contracts} {accounts} {filler} {taken}")
+}
+
+fn shown_clauses(clauses: Clauses) -> String {
+    clauses.as_flattened().iter().map(|clause| format!(" {clause}")).collect()
+}
+
+/// What a line has after its checksums: the clauses, the number of findings, or total and rung. Not of positions.
+pub fn after_checksums(line: &str) -> String {
+    let before = if line.contains(" open ") { 13 } else { 6 };
+    line.split(' ').skip(before).collect::<Vec<_>>().join(" ")
 }
 
 pub fn counts_checksum(counts: &[u32]) -> u64 {

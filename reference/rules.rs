@@ -7,20 +7,6 @@ pub const KINDS: usize = 3;
 pub const FAMILIES: usize = 16;
 pub const PLACES: usize = 32;
 
-/// Market making is spared for kind 2: in rulebook 1 in options only (K1), in rulebook 2 everywhere.
-pub fn is_exempt(rulebook: u8, contract_type: u8, kind: usize, instruction: u8, purpose: u8) -> bool {
-    if rulebook == 1 {
-        let is_spared_maker = purpose == 4 && kind == 2 && contract_type == 2;
-        (2..=6).contains(&instruction) || purpose == 2 || purpose == 3 || is_spared_maker
-    } else {
-        instruction == 2
-            || (instruction == 1 && kind == 2)
-            || purpose == 2
-            || (purpose == 3 && kind != 1)
-            || (purpose == 4 && kind == 2)
-    }
-}
-
 /// The last contract type that a rulebook has: options are DCE's alone.
 pub fn last_type(rulebook: u8) -> u8 {
     if rulebook == 1 {
@@ -39,15 +25,44 @@ pub fn is_order(rulebook: u8, (instruction, purpose): (u8, u8)) -> bool {
     has_instruction && (1..=4).contains(&purpose)
 }
 
-/// The exemption test of any codes: rulebook, edition, contract type, kind, instruction and purpose. Codes that the
-/// rulebook does not have are held as exempt (K3), and there is no edition but 0.
-pub fn is_spared([rulebook, edition, contract_type, kind, instruction, purpose]: [u8; 6]) -> bool {
-    let is_known = (1..=2).contains(&rulebook)
+/// Whether there are such codes: rulebook, edition, contract type, kind, instruction and purpose. There is no edition
+/// but 0.
+pub fn is_known([rulebook, edition, contract_type, kind, instruction, purpose]: [u8; 6]) -> bool {
+    (1..=2).contains(&rulebook)
         && edition == 0
         && (1..=last_type(rulebook)).contains(&contract_type)
         && (1..=KINDS).contains(&(kind as usize))
-        && is_order(rulebook, (instruction, purpose));
-    !is_known || is_exempt(rulebook, contract_type, kind as usize, instruction, purpose)
+        && is_order(rulebook, (instruction, purpose))
+}
+
+/// The exemption test of any codes: the clause that exempts such an order (K5), 1 its instruction, 2 its purpose, 3
+/// either by itself, 0 none. Codes that there are not are held as exempt (K3), by clause 1.
+pub fn clause(codes: [u8; 6]) -> u8 {
+    let [rulebook, _, contract_type, kind, instruction, purpose] = codes;
+    if !is_known(codes) {
+        return 1;
+    }
+    let by_instruction = is_exempt_instruction(rulebook, kind, instruction);
+    let by_purpose = is_exempt_purpose(rulebook, contract_type, kind, purpose);
+    by_instruction as u8 + 2 * by_purpose as u8
+}
+
+fn is_exempt_instruction(rulebook: u8, kind: u8, instruction: u8) -> bool {
+    if rulebook == 1 {
+        (2..=6).contains(&instruction)
+    } else {
+        instruction == 2 || (instruction == 1 && kind == 2)
+    }
+}
+
+/// Market making is spared for kind 2: in rulebook 1 in options only (K1), in rulebook 2 everywhere.
+fn is_exempt_purpose(rulebook: u8, contract_type: u8, kind: u8, purpose: u8) -> bool {
+    match purpose {
+        2 => true,
+        3 => rulebook == 1 || kind != 1,
+        4 => kind == 2 && (rulebook == 2 || contract_type == 2),
+        _ => false,
+    }
 }
 
 /// By multiplying: four fifths are never rounded. Lots and largest orders are at most 1,000,000.

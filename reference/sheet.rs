@@ -1,6 +1,6 @@
 //! The program sheet: the exemptions in words, all or narrowed by words, and nothing where the words are no good.
 use crate::cases::Feed;
-use crate::rules::{is_order, is_spared, last_type};
+use crate::rules::{clause, is_known};
 use crate::run::{command, run, run_as_set};
 use crate::stage::{empty_folder, has_status, prints, said, text, Stage};
 use std::fs::{self, OpenOptions};
@@ -10,7 +10,7 @@ const TITLE: &str = "# Exemptions
 
 An order that is exempt for a kind of offence does not count for it.
 Each line is an entry of the table that the desk looks up: its number, rulebook, contract
-type, kind, instruction, purpose, and whether such an order counts.
+type, kind, instruction, purpose, and whether such an order counts or which clause exempts it.
 ";
 
 const HEADINGS: [&str; 2] = [
@@ -18,11 +18,17 @@ const HEADINGS: [&str; 2] = [
     "\n## Rulebook 2, CFX (CFFEX government bond futures): document 004, one (1) 5\n",
 ];
 
+/// What a clause says of an order.
+pub const CLAUSES: [&str; 4] =
+    ["counts", "exempt by instruction", "exempt by purpose", "exempt by instruction and purpose"];
+
+pub const KINDS: [&str; 3] = ["self-trade", "frequent cancels", "large cancels"];
+
 /// The words for each code, in the order of a line: rulebook, contract type, kind, instruction, purpose.
 const LISTS: [&[&str]; 5] = [
     &["DCE", "CFX"],
     &["futures", "option"],
-    &["self-trade", "frequent cancels", "large cancels"],
+    &KINDS,
     &["plain limit", "market", "stop", "arbitrage order", "FOK", "FAK"],
     &["ordinary", "hedge", "arbitrage", "market making"],
 ];
@@ -51,10 +57,9 @@ fn in_words(codes: &[u8]) -> String {
 }
 
 fn answer([rulebook, contract_type, kind, instruction, purpose]: [u8; 5]) -> &'static str {
-    if !is_spared([rulebook, 0, contract_type, kind, instruction, purpose]) {
-        "counts"
-    } else if contract_type <= last_type(rulebook) && is_order(rulebook, (instruction, purpose)) {
-        "exempt"
+    let codes = [rulebook, 0, contract_type, kind, instruction, purpose];
+    if is_known(codes) {
+        CLAUSES[clause(codes) as usize]
     } else {
         "exempt, refused by the rulebook"
     }
@@ -102,11 +107,23 @@ const WRONG: [&[&str]; 17] = [
     &["--purpose", "5"],
 ];
 
+/// Lines by documents 01 and 02, not by the reference.
+const LINES: [&str; 7] = [
+    "1. DCE, futures, self-trade, plain limit, ordinary: counts\n",
+    "2. DCE, futures, self-trade, plain limit, hedge: exempt by purpose\n",
+    "5. DCE, futures, self-trade, market, ordinary: exempt by instruction\n",
+    "6. DCE, futures, self-trade, market, hedge: exempt by instruction and purpose\n",
+    "145. CFX, futures, self-trade, plain limit, ordinary: counts\n",
+    "154. CFX, futures, self-trade, stop, hedge: exempt, refused by the rulebook\n",
+    "288. CFX, option, large cancels, FAK, market making: exempt, refused by the rulebook\n",
+];
+
 type Results = Vec<(String, Result<(), String>)>;
 
 pub fn sheet(stage: &Stage) -> Results {
     let mut all = vec![
         ("the page that is kept".to_string(), is_kept(stage)),
+        ("lines by the documents".to_string(), has_lines()),
         ("a word said twice".to_string(), shows(stage, &["--kind", "1", "--kind", "3"], [0, 0, 3, 0, 0])),
         ("words in another order".to_string(), shows(stage, &["--purpose", "4", "--rulebook", "1"], [1, 0, 0, 0, 4])),
         ("sheet, standard output is full".to_string(), full_output(stage)),
@@ -155,6 +172,14 @@ fn is_kept(stage: &Stage) -> Result<(), String> {
         return Ok(());
     }
     Err("docs/EXEMPTIONS.md is not the reference's page".to_string())
+}
+
+fn has_lines() -> Result<(), String> {
+    let page = page([0; 5]);
+    match LINES.iter().find(|line| !page.contains(&format!("\n{line}"))) {
+        Some(line) => Err(format!("the reference's page has no line {line:?}")),
+        None => Ok(()),
+    }
 }
 
 fn refuses(stage: &Stage, words: &[&str]) -> Result<(), String> {

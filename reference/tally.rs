@@ -1,8 +1,10 @@
-//! Which refusals of which call were reached, in how many cases and how often.
-use crate::desk::{self, Desk};
+//! Which refusals of which call were reached, in how many cases and how often, and which clauses.
+use crate::desk;
 use crate::edges::CALLS;
 use crate::position_scene::POSITION_CALLS;
 use crate::refusal::{order, Refusal};
+use crate::replay::after_checksums;
+use crate::rules::KINDS;
 use std::collections::{BTreeMap, BTreeSet};
 
 #[derive(Default)]
@@ -12,21 +14,40 @@ pub struct Tally {
     this_case: BTreeSet<(String, String)>,
 }
 
-/// What a run of the clerk can stop at: 10, 16, 19 and 20 cannot come up, as its buffers are its own.
-fn clerk_stops() -> Vec<(&'static str, u8, &'static str)> {
+/// A call, a number and a note.
+type Stopped = (&'static str, u8, &'static str);
+
+/// What a run of a program over a day log can stop at, from opening it to a record: 10, 16 and 19 cannot come up, as
+/// its buffers are its own.
+fn day_stops(own: &[Refusal]) -> Vec<Stopped> {
     let mut all = vec![("accepted", 0, " (version 1)"), ("accepted", 0, " (version 2)")];
-    let own = [Refusal::DayState, Refusal::Counts];
     all.extend(order("open").iter().filter(|r| !own.contains(r)).map(|r| ("open", r.number(), r.note())));
-    for (call, numbers) in [("take", &[11, 12, 13, 14][..]), ("end", &[11, 15][..])] {
-        all.extend(numbers.iter().map(|&number| (call, number, "")));
-        all.push((call, Refusal::Brokers.number(), Refusal::Brokers.note()));
-    }
-    all.extend([" (cut-off record)", " (no end record)", " (bytes after the end)"].map(|note| ("log", 1, note)));
+    all.extend(with_brokers("take", &[11, 12, 13, 14]));
+    all.extend([" (cut-off record)", " (no end record)"].map(|note| ("log", 1, note)));
     all
 }
 
-/// The same for positions: 20 cannot come up.
-fn position_clerk_stops() -> Vec<(&'static str, u8, &'static str)> {
+fn with_brokers(call: &'static str, numbers: &[u8]) -> Vec<Stopped> {
+    let brokers = (call, Refusal::Brokers.number(), Refusal::Brokers.note());
+    numbers.iter().map(|&number| (call, number, "")).chain([brokers]).collect()
+}
+
+/// 20 cannot come up either.
+fn clerk_stops() -> Vec<Stopped> {
+    let mut all = day_stops(&[Refusal::DayState, Refusal::Counts]);
+    all.extend(with_brokers("end", &[11, 15]));
+    all.push(("log", 1, " (bytes after the end)"));
+    all
+}
+
+/// The book is the program's own too, and the end is not judged.
+fn why_stops() -> Vec<Stopped> {
+    let own = [Refusal::DayState, Refusal::Counts, Refusal::Book, Refusal::OtherRulebook, Refusal::NotLater];
+    day_stops(&own)
+}
+
+/// Of a position log: 20 cannot come up.
+fn position_clerk_stops() -> Vec<Stopped> {
     let refusals = order("judge").iter().filter(|&&refusal| refusal != Refusal::Findings);
     let stops = refusals.map(|refusal| ("judge", refusal.number(), refusal.note()));
     std::iter::once(("accepted", 0, "")).chain(stops).collect()
@@ -44,8 +65,17 @@ impl Tally {
         self.count(call.to_string(), label);
     }
 
-    pub fn clerk(&mut self, desk: &Desk, call: &str, number: u8, note: &str) {
-        self.count(format!("{}, {call}", desk.name), format!("{number}{note}"));
+    pub fn program(&mut self, name: &str, call: &str, number: u8, note: &str) {
+        self.count(format!("{name}, {call}"), format!("{number}{note}"));
+    }
+
+    /// The clauses in the line of a take that was accepted; its state has rulebook and version.
+    pub fn clauses(&mut self, line: &str) {
+        let words: Vec<&str> = line.split(' ').collect();
+        let ["t" | "m", "0", "open", rulebook, version, ..] = words[..] else { return };
+        for (i, clause) in after_checksums(line).split(' ').enumerate() {
+            self.count(clause_call(rulebook, version), clause_label(i / 2 + 1, i % 2, clause));
+        }
     }
 
     pub fn close_case(&mut self) {
@@ -69,16 +99,30 @@ impl Tally {
             rows.push((call.to_string(), "0".to_string()));
             rows.extend(order(call).iter().map(|r| (call.to_string(), format!("{}{}", r.number(), r.note()))));
         }
-        // only a log of more than a million records is refused with 14
-        let clerk: Vec<_> = clerk_stops().into_iter().filter(|stop| with_large || stop.1 != 14).collect();
-        for (desk, stops) in [(&desk::DAYS, clerk), (&desk::POSITIONS, position_clerk_stops())] {
-            let row = |(call, n, note)| (format!("{}, {call}", desk.name), format!("{n}{note}"));
-            rows.extend(stops.into_iter().map(row));
+        let [clerk, position_clerk] = [&desk::DAYS, &desk::POSITIONS].map(|desk| desk.name);
+        let stops = [(clerk, clerk_stops()), (position_clerk, position_clerk_stops()), ("why", why_stops())];
+        for (name, stops) in stops {
+            // only a log of more than a million records is refused with 14
+            let stops = stops.into_iter().filter(|stop| with_large || stop.1 != 14);
+            rows.extend(stops.map(|(call, n, note)| (format!("{name}, {call}"), format!("{n}{note}"))));
         }
         rows
     }
 
-    /// Prints the table; gives the rows that were reached and those that were not.
+    /// Each clause of each kind and order, in both rulebooks and versions: a line for all, and one for each that was
+    /// not reached.
+    fn print_clauses(&self) -> (usize, usize) {
+        let rows = clause_rows();
+        let missed: Vec<_> = rows.iter().filter(|&row| !self.calls.contains_key(row)).collect();
+        for (call, label) in &missed {
+            println!("{call}, {label}: NEVER REACHED");
+        }
+        let reached = rows.len() - missed.len();
+        println!("{reached} of {} clauses by rulebook, version, kind and order were reached", rows.len());
+        (reached, missed.len())
+    }
+
+    /// Prints the table and what there is of clauses; gives the rows that were reached and those that were not.
     pub fn print(&self, with_large: bool) -> (usize, usize) {
         println!("{:<24} {:<26} {:>7} {:>9}", "call", "number", "cases", "times");
         let (mut reached, mut missed) = (0, 0);
@@ -92,6 +136,26 @@ impl Tally {
                 reached += 1;
             }
         }
-        (reached, missed)
+        let of_clauses = self.print_clauses();
+        (reached + of_clauses.0, missed + of_clauses.1)
     }
+}
+
+fn clause_call(rulebook: &str, version: &str) -> String {
+    format!("take, rulebook {rulebook}, version {version}")
+}
+
+fn clause_label(kind: usize, order: usize, clause: &str) -> String {
+    format!("kind {kind}, {} order, clause {clause}", ["first", "second"][order])
+}
+
+fn clause_rows() -> Vec<(String, String)> {
+    let mut rows = Vec::new();
+    for (rulebook, version) in [("1", "1"), ("1", "2"), ("2", "1"), ("2", "2")] {
+        for kind in 1..=KINDS {
+            let labels = ["0", "1", "2", "3"].iter().flat_map(|clause| [0, 1].map(|i| clause_label(kind, i, clause)));
+            rows.extend(labels.map(|label| (clause_call(rulebook, version), label)));
+        }
+    }
+    rows
 }

@@ -3,6 +3,7 @@ use crate::build::end_record;
 use desk::end::Ended;
 use desk::state::Answer;
 use desk::state::State;
+use desk::take::Taken;
 
 // The first refusal's number, or 0, and the state so far.
 pub(crate) struct Run {
@@ -44,10 +45,10 @@ pub(crate) fn taken(
     let mut state = run.state;
     for _ in 0..times {
         match desk::take::take(state, log, row, counts) {
-            Answer::Done(next) => {
+            Taken::Done(next, _) => {
                 state = next;
             }
-            Answer::Refused(fault) => {
+            Taken::Refused(fault) => {
                 return stopped(fault);
             }
         }

@@ -1,4 +1,4 @@
-// Runs document 01's cases and slips, and K1's of document 02, on the library's own functions and calls, and prints
+// Runs document 01's cases and slips, and K1's and K5's of document 02, on the library's own functions and calls, and prints
 // each with what came out. The file `stdout` says what the documents say.
 mod build;
 mod dates;
@@ -14,13 +14,17 @@ use rules::text::Text;
 
 fn leaves() {
     dates::tested();
-    say::truth(
-        b"rulebook 2, plain limit, ordinary is exempt for kind 2",
-        rules::exemption::is_exempt(Text { rulebook: 2 }, 1, 2, 1, 1),
+    say::number(
+        b"rulebook 2, plain limit, ordinary: clause for kind 2",
+        rules::exemption::clause_of(Text { rulebook: 2 }, 1, 2, 1, 1) as u64,
     );
-    say::truth(
-        b"rulebook 2, plain limit, ordinary is exempt for kind 3",
-        rules::exemption::is_exempt(Text { rulebook: 2 }, 1, 3, 1, 1),
+    say::number(
+        b"rulebook 2, plain limit, ordinary: clause for kind 3",
+        rules::exemption::clause_of(Text { rulebook: 2 }, 1, 3, 1, 1) as u64,
+    );
+    say::number(
+        b"rulebook 2, stop order, hedge: clause for kind 2",
+        rules::exemption::clause_of(Text { rulebook: 2 }, 1, 2, 3, 2) as u64,
     );
     say::number(
         b"family of DCE futures",

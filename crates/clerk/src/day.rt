@@ -5,6 +5,7 @@ use daylog::record::record_length;
 use desk::end::Ended;
 use desk::state::Answer;
 use desk::state::State;
+use desk::take::Taken;
 use files::input::Got;
 use places::MOST_CELLS;
 use wire::refusal::FULL;
@@ -51,10 +52,10 @@ fn take_rows(start: State, log: &[u8], rows: &[u8], size: usize, counts: &mut [u
             };
         }
         match desk::take::take(state, log, &rows[at..at + size], counts) {
-            Answer::Done(next) => {
+            Taken::Done(next, _) => {
                 state = next;
             }
-            Answer::Refused(fault) => {
+            Taken::Refused(fault) => {
                 return Passed { state, at, fault };
             }
         }

@@ -1,6 +1,6 @@
 -- Laws of a record weighed: the searches say what the tables have, and the answer is the number or the plan.
 -- Assumes nothing.
-use mathlib.Core.Path.{_≡_, refl, sym, ap, _∙_}
+use mathlib.Core.Path.{_≡_, refl, sym, ap, ap₂, _∙_}
 use mathlib.Core.Bool.{Bool, true, false, not, _&&_}
 use mathlib.Core.List.{List}
 use Prim.Native.Nat.{ℕ, _≤_, _<_}
@@ -13,6 +13,9 @@ use Rattle.wire.specs.Outcomes.{answered}
 use Rattle.wire.proofs.ChoiceLaws.{pick-yes, pick-no, and-yes, and-no, and-no-right, flip-yes, flip-no}
 use Rattle.wire.proofs.AnswerLaws.{answer-refused, answer-done}
 use Rattle.rules.specs.declared.text.Text.{Text}
+use Rattle.rules.specs.declared.exemption.Clauses.{Clauses}
+use Rattle.rules.specs.Exemption.{exempt, clause, clauses}
+use Rattle.rules.proofs.SheetLaws.{exempt-clause}
 use Rattle.tables.specs.declared.contracts.Contract.{Contract}
 use Rattle.tables.specs.declared.contracts.Found.{Found}
 use Rattle.tables.specs.declared.contracts.Found.the-variants.{At, Nothing}
@@ -26,8 +29,10 @@ use Rattle.tables.specs.Way.{foundAccount}
 use Rattle.tables.proofs.Search.{found-length, found-group}
 use Rattle.counts.specs.declared.weigh.Plan.{Plan}
 use Rattle.counts.specs.declared.weigh.Weighed.the-variants.{Counts, Refused}
-use Rattle.counts.specs.Counting.{planFor, planOf}
+use Rattle.counts.specs.declared.weigh.Reasons.{Reasons}
+use Rattle.counts.specs.Counting.{selfTrade, frequentCancel, largeCancel, planFor, planOf, reasonsFor, reasonsOf}
 use Rattle.counts.specs.Counting.{fieldsFault, weighed}
+use Rattle.counts.specs.Way.{selfTradeBy, frequentBy, largeBy}
 
 -- ---- what the searches say
 module _ (text : Text) (contracts accounts : List ℕ) where
@@ -116,6 +121,42 @@ module _ (t : Tables) (r : Record) (good : recordGood (t .text) r ≡ true)
   pub second-none : (r .sort ≡ 1 → ⊥) → 0 ≡ fieldsFault t r
   second-none n = second-decides 0 (pick-no _ _ _ _ (and-no (eqb (r .sort) 1) _ (ne-eqb (r .sort) 1 n)) refl)
 
+-- ---- what a record counts as, by its clauses
+-- an order counts where its clause is 0
+spared-not : (text : Text) (sort kind instruction purpose : ℕ)
+    → eqb (clause text sort kind instruction purpose) 0 ≡ not (exempt text sort kind instruction purpose)
+spared-not text sort kind instruction purpose =
+    go (eqb (clause text sort kind instruction purpose) 0) ∙ sym (ap not (exempt-clause text sort kind instruction purpose))
+  where
+    go : (b : Bool) → b ≡ not (not b)
+    go true = refl
+    go false = refl
+
+module _ (text : Text) (e : Contract) (r : Record) where
+  abbrev why : Reasons
+  why = reasonsFor text e r
+
+  pub self-trade-by : (group group2 : ℕ) → selfTradeBy r why group group2 ≡ selfTrade text e r group group2
+  unfolding reasonsFor clauses pick
+  self-trade-by group group2 = go (eqb (r .sort) 1) refl
+    where
+      go : (b : Bool) → eqb (r .sort) 1 ≡ b → selfTradeBy r why group group2 ≡ selfTrade text e r group group2
+      go true q =
+          rw (
+            q,
+            ← spared-not text (e .sort) 1 (r .instruction) (r .purpose),
+            ← spared-not text (e .sort) 1 (r .instruction2) (r .purpose2),
+          ) refl
+      go false q = rw q refl
+
+  pub frequent-by : frequentBy r (why .first) ≡ frequentCancel text e r
+  unfolding reasonsFor clauses
+  frequent-by = rw (← spared-not text (e .sort) 2 (r .instruction) (r .purpose)) refl
+
+  pub large-by : largeBy text e r (why .first) ≡ largeCancel text e r
+  unfolding reasonsFor clauses
+  large-by = rw (← spared-not text (e .sort) 3 (r .instruction) (r .purpose)) refl
+
 -- a cancel has no second group
 no-second : (text : Text) (e : Contract) (r : Record) (place group a b : ℕ) → (r .sort ≡ 1 → ⊥)
     → planFor text e r place group a ≡ planFor text e r place group b
@@ -136,6 +177,11 @@ module _ (t : Tables) (r : Record) (e : Contract) (place group : ℕ)
   plan-none x n =
       no-second (t .text) e r place group x (groupOf t (r .second)) n ∙ plan-is (groupOf t (r .second)) refl
 
+  -- and so are the clauses
+  pub reasons-is : reasonsFor (t .text) e r ≡ reasonsOf t r
+  unfolding reasonsOf
+  reasons-is = rw entry
+
 -- ---- the answer
 module _ (t : Tables) (r : Record) where
   -- a refusal by its number, and a plan where there is none
@@ -143,27 +189,31 @@ module _ (t : Tables) (r : Record) where
   unfolding weighed
   refused-by n e some = answer-refused _ Refused (fieldsFault t r) n e some
 
-  pub counts-by : (p : Plan) → 0 ≡ fieldsFault t r → p ≡ planOf t r → Counts p ≡ weighed t r
+  pub counts-by : (p : Plan) (why : Reasons) → 0 ≡ fieldsFault t r → p ≡ planOf t r → why ≡ reasonsOf t r
+      → Counts p why ≡ weighed t r
   unfolding weighed
-  counts-by p e is = answer-done _ Refused (fieldsFault t r) (sym e) (ap Counts is)
+  counts-by p why e is clear = answer-done _ Refused (fieldsFault t r) (sym e) (ap₂ Counts is clear)
 
--- and read back: an answer that refuses has the refusal's number, and one that counts has the plan
-module _ (fault : ℕ) (p : Plan) where
-  pub weighed-no : (n : ℕ) → Refused n ≡ answered fault (Counts p) Refused → (n ≡ fault) × (n ≡ 0 → ⊥)
+-- and read back: an answer that refuses has the refusal's number, and one that counts has the plan and the clauses
+module _ (fault : ℕ) (p : Plan) (why : Reasons) where
+  pub weighed-no : (n : ℕ) → Refused n ≡ answered fault (Counts p why) Refused → (n ≡ fault) × (n ≡ 0 → ⊥)
   unfolding answered
   weighed-no n e = go (eqb fault 0) refl
     where
       go : (b : Bool) → eqb fault 0 ≡ b → (n ≡ fault) × (n ≡ 0 → ⊥)
-      go true q = let z : _≡_ {A = ℕ} 0 1 = cc (pick-yes _ (Counts p) _ (Refused fault) q refl) in absurd (omega arith)
+      go true q =
+          let z : _≡_ {A = ℕ} 0 1 = cc (pick-yes _ (Counts p why) _ (Refused fault) q refl) in absurd (omega arith)
       go false q =
-          let same : n ≡ fault = cc (pick-no _ (Refused fault) (Counts p) _ q refl) in
+          let same : n ≡ fault = cc (pick-no _ (Refused fault) (Counts p why) _ q refl) in
           (same, λ z. eqb-false fault 0 q (sym same ∙ z))
 
-  pub weighed-yes : (q : Plan) → Counts q ≡ answered fault (Counts p) Refused → (fault ≡ 0) × (q ≡ p)
+  pub weighed-yes : (q : Plan) (because : Reasons) → Counts q because ≡ answered fault (Counts p why) Refused
+      → (fault ≡ 0) × (q ≡ p) × (because ≡ why)
   unfolding answered
-  weighed-yes q e = go (eqb fault 0) refl
+  weighed-yes q because e = go (eqb fault 0) refl
     where
-      go : (b : Bool) → eqb fault 0 ≡ b → (fault ≡ 0) × (q ≡ p)
-      go true h = (eqb-true fault 0 h, cc (pick-yes _ (Counts p) _ (Refused fault) h refl))
+      go : (b : Bool) → eqb fault 0 ≡ b → (fault ≡ 0) × (q ≡ p) × (because ≡ why)
+      go true h =
+          let same = pick-yes _ (Counts p why) _ (Refused fault) h refl in (eqb-true fault 0 h, cc same, cc same)
       go false h =
-          let z : _≡_ {A = ℕ} 0 1 = cc (pick-no _ (Refused fault) (Counts p) _ h refl) in absurd (omega arith)
+          let z : _≡_ {A = ℕ} 0 1 = cc (pick-no _ (Refused fault) (Counts p why) _ h refl) in absurd (omega arith)

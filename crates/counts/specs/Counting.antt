@@ -1,20 +1,26 @@
--- 01, "What counts": which record counts for which group, kind and contract. Over tables and records, with no bytes
--- and no cells.
+-- 01, "What counts": which record counts for which group, kind and contract; and 02, K5: why it was spared. Over tables
+-- and records, with no bytes and no cells.
 use Prim.Native.Nat.{ℕ}
 use mathlib.Core.Bool.{Bool, _&&_, _||_, not}
 use lib.Dec.{eqb}
 use Rattle.wire.specs.Choice.{pick}
 use Rattle.wire.specs.Outcomes.{answered}
 use Rattle.rules.specs.declared.text.Text.{Text}
-use Rattle.rules.specs.Exemption.{exempt}
+use Rattle.rules.specs.declared.exemption.Clauses.{Clauses}
+use Rattle.rules.specs.Exemption.{exempt, clauses}
 use Rattle.rules.specs.Measure.{large}
 use Rattle.tables.specs.declared.contracts.Contract.{Contract}
 use Rattle.daylog.specs.declared.record.Record.{Record}
 use Rattle.daylog.specs.Records.{recordGood}
 use Rattle.tables.specs.Tables.{Tables, contractOf, hasAccount, hasContract, groupOf}
 use Rattle.counts.specs.declared.weigh.Plan.{Plan}
+use Rattle.counts.specs.declared.weigh.Reasons.{Reasons}
 use Rattle.counts.specs.declared.weigh.Weighed.{Weighed}
 use Rattle.counts.specs.declared.weigh.Weighed.the-variants.{Counts, Refused}
+
+-- of an order that is not there
+abbrev pub noClauses : Clauses
+noClauses = record { own = 0; frequent = 0; over = 0 }
 
 -- ---- what a record counts as, on a contract, with the groups of its first and second account
 module _ (text : Text) (e : Contract) (r : Record) where
@@ -47,11 +53,22 @@ module _ (text : Text) (e : Contract) (r : Record) where
     over = largeCancel;
   }
 
+  -- 02, K5: the clauses "for both orders and each kind, and a cancel's second order gives 0", whatever its group and
+  -- however large
+  unfoldable pub reasonsFor : Reasons
+  reasonsFor = record {
+    first = clauses text (e .sort) (r .instruction) (r .purpose);
+    second = pick (eqb (r .sort) 1) (clauses text (e .sort) (r .instruction2) (r .purpose2)) noClauses;
+  }
+
 -- ---- a record of a day
 unfoldable pub planOf : Tables → Record → Plan
 planOf t r =
     planFor (t .text) (t .contract (contractOf t (r .contract))) r
     (contractOf t (r .contract)) (groupOf t (r .first)) (groupOf t (r .second))
+
+unfoldable pub reasonsOf : Tables → Record → Reasons
+reasonsOf t r = reasonsFor (t .text) (t .contract (contractOf t (r .contract))) r
 
 -- the kinds: 1 self-trade, 2 frequent cancel, 3 large cancel
 unfoldable pub countsAs : Plan → ℕ → Bool
@@ -72,6 +89,6 @@ fieldsFault t r =
     (pick (eqb (r .sort) 1 && not (hasAccount t (r .second))) 13
     0)))
 
--- what the record counts for, or the refusal
+-- what the record counts for and why it was spared, or the refusal
 unfoldable pub weighed : Tables → Record → Weighed
-weighed t r = answered (fieldsFault t r) (Counts (planOf t r)) Refused
+weighed t r = answered (fieldsFault t r) (Counts (planOf t r) (reasonsOf t r)) Refused

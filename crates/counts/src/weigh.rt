@@ -6,7 +6,8 @@ use daylog::header::text_of;
 use daylog::record::Record;
 use daylog::record::record_good;
 use daylog::record::record_of;
-use rules::exemption::is_exempt;
+use rules::exemption::Clauses;
+use rules::exemption::clauses_of;
 use rules::measure::is_large;
 use rules::text::Text;
 use tables::accounts::find_account;
@@ -24,7 +25,9 @@ ghost use Prim.Native.Nat.{_≤_};
 ghost use lib.ListN.{length};
 ghost use Rattle.tables.specs.Accounts.{accountsGood};
 ghost use Rattle.tables.specs.Tables.{tablesIn};
-ghost use Rattle.counts.specs.Counting.{selfTrade, frequentCancel, largeCancel, planFor, weighed};
+ghost use Rattle.counts.specs.declared.weigh.Weighed.the-variants.{Counts};
+ghost use Rattle.counts.specs.Counting.{planFor, reasonsFor, weighed};
+ghost use Rattle.counts.specs.Way.{selfTradeBy, frequentBy, largeBy};
 ghost use Rattle.counts.specs.Weigh.{weighedOn};
 
 // The group and the contract's place for which a record counts, and as which kinds.
@@ -36,60 +39,75 @@ pub struct Plan {
     pub over: bool,
 }
 
-// What a record counts for, or the refusal.
+// Why it was spared: the clauses of its first order and of its second. A cancel has no second order, and all 0 there.
+pub struct Reasons {
+    pub first: Clauses,
+    pub second: Clauses,
+}
+
+// What a record counts for and why it was spared, or the refusal.
 pub enum Weighed {
-    Counts(Plan),
+    Counts(Plan, Reasons),
     Refused(u32),
 }
 
-// A trade within one group, of which neither order is exempt. They are looked up only where there is one group.
-fn is_self_trade(text: Text, e: Contract, r: Record, group: u8, group2: u8) -> bool
-    ensures { λ a. ⌜ a ≡ selfTrade text e r group group2 ⌝ }
+// A record's clauses, on a contract: they are looked up once, and what it counts as goes by them.
+fn reasons_for(text: Text, e: Contract, r: Record) -> Reasons
+    ensures { λ a. ⌜ a ≡ reasonsFor text e r ⌝ }
 {
+    let first = clauses_of(text, e.sort, r.instruction, r.purpose);
     if r.sort != 1 {
-        return false;
+        return Reasons {
+            first,
+            second: Clauses {
+                own: 0,
+                frequent: 0,
+                over: 0,
+            },
+        };
     }
-    if group != group2 {
-        return false;
+    Reasons {
+        first,
+        second: clauses_of(text, e.sort, r.instruction2, r.purpose2),
     }
-    !is_exempt(text, e.sort, 1, r.instruction, r.purpose)
-        & !is_exempt(text, e.sort, 1, r.instruction2, r.purpose2)
 }
 
-fn is_frequent_cancel(text: Text, e: Contract, r: Record) -> bool
-    ensures { λ a. ⌜ a ≡ frequentCancel text e r ⌝ }
+// A trade within one group, of which neither order is exempt.
+fn is_self_trade(r: Record, why: Reasons, group: u8, group2: u8) -> bool
+    ensures { λ a. ⌜ a ≡ selfTradeBy r why group group2 ⌝ }
 {
-    if r.sort != 2 {
-        return false;
-    }
-    !is_exempt(text, e.sort, 2, r.instruction, r.purpose)
+    let first = why.first;
+    let second = why.second;
+    (r.sort == 1) & ((group == group2) & (first.own == 0) & (second.own == 0))
 }
 
-// The order is looked up only where the cancel is large.
-fn is_large_cancel(text: Text, e: Contract, r: Record) -> bool
-    ensures { λ a. ⌜ a ≡ largeCancel text e r ⌝ }
+fn is_frequent_cancel(r: Record, order: Clauses) -> bool
+    ensures { λ a. ⌜ a ≡ frequentBy r order ⌝ }
 {
-    if r.sort != 2 {
-        return false;
-    }
+    (r.sort == 2) & (order.frequent == 0)
+}
+
+fn is_large_cancel(text: Text, e: Contract, r: Record, order: Clauses) -> bool
+    ensures { λ a. ⌜ a ≡ largeBy text e r order ⌝ }
+{
     let lots = r.lots;
     let largest = e.largest;
-    if !is_large(text, lots, largest) {
-        return false;
-    }
-    !is_exempt(text, e.sort, 3, r.instruction, r.purpose)
+    (r.sort == 2) & is_large(text, lots, largest) & (order.over == 0)
 }
 
-fn plan_for(text: Text, e: Contract, r: Record, place: u16, group: u8, group2: u8) -> Plan
-    ensures { λ a. ⌜ a ≡ planFor text e r place group group2 ⌝ }
+fn weigh_for(text: Text, e: Contract, r: Record, place: u16, group: u8, group2: u8) -> Weighed
+    ensures { λ a. ⌜ a ≡ Counts (planFor text e r place group group2) (reasonsFor text e r) ⌝ }
 {
-    Plan {
+    let why = reasons_for(text, e, r);
+    let order = why.first;
+    let plan = Plan {
         group,
         place,
-        own: is_self_trade(text, e, r, group, group2),
-        frequent: is_frequent_cancel(text, e, r),
-        over: is_large_cancel(text, e, r),
-    }
+        own: is_self_trade(r, why, group, group2),
+        frequent: is_frequent_cancel(r, order),
+        over: is_large_cancel(text, e, r, order),
+    };
+    Weighed::Counts(plan, why)
 }
 
 // Each number is searched for once. The tables are sound: 32 contracts at the most, and accounts that rise.
@@ -110,13 +128,13 @@ fn weigh_in(text: Text, contracts: &[u8], accounts: &[u8], r: Record) -> Weighed
         return Weighed::Refused(NO_ACCOUNT);
     }
     if r.sort != 1 {
-        return Weighed::Counts(plan_for(text, e, r, place, get8(first, 4), 0));
+        return weigh_for(text, e, r, place, get8(first, 4), 0);
     }
     let second = find_account(accounts, r.second);
     if second.len() == 0 {
         return Weighed::Refused(NO_ACCOUNT);
     }
-    Weighed::Counts(plan_for(text, e, r, place, get8(first, 4), get8(second, 4)))
+    weigh_for(text, e, r, place, get8(first, 4), get8(second, 4))
 }
 
 // A record against the tables that are lent with it, which must still be those of the day with this header.

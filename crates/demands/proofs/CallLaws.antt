@@ -20,19 +20,20 @@ use Rattle.verdict.specs.Settle.{written}
 use Rattle.years.specs.Days.{blankAs}
 use Rattle.desk.specs.declared.state.State.{State}
 use Rattle.desk.specs.declared.state.State.the-variants.{Closed, Open}
-use Rattle.desk.specs.declared.state.Answer.{Answer}
 use Rattle.desk.specs.declared.state.Answer.the-variants.{Done, Refused}
+use Rattle.desk.specs.declared.take.Taken.the-variants.{Done as TakeDone, Refused as TakeRefused}
 use Rattle.desk.specs.declared.end.Ended.the-variants.{Done as EndDone, Refused as EndRefused}
 use Rattle.counts.specs.Cells.{raised}
 use Rattle.counts.specs.Counting.{fieldsFault}
-use Rattle.counts.specs.Weigh.{planIn, recordFault}
+use Rattle.counts.specs.Weigh.{planIn, reasonsIn, recordFault}
 use Rattle.desk.specs.Take.{takeFault, oneMore}
 use Rattle.desk.specs.Open.{kindsFor, openFault, handedFault, dayOf, zeroed}
 use Rattle.desk.specs.Abandon.{abandonAnswer}
 use Rattle.desk.specs.End.{endFault}
 use Rattle.desk.proofs.HandedLaws.{room-there}
 use Rattle.demands.specs.Counts.{dayVerdict}
-use Rattle.demands.specs.Calls.{Step, Reply, moved, ended, Desk, deskOf, Given, stateAfter, logAfter, endState}
+use Rattle.demands.specs.Calls.{Step, Reply, moved, took, ended, Desk, deskOf, Given, stateAfter, logAfter}
+use Rattle.demands.specs.Calls.{takeState, endState}
 use Rattle.demands.specs.Calls.{Gives, fresh-gives, open-gives, take-gives, end-gives, abandon-gives, ask-gives}
 use Rattle.demands.specs.Calls.{lend-gives, Ran, none, next, left}
 use Rattle.demands.specs.Paper.{Course, idle, during, Paper, Ruled, dayIn, takeNumber, endRefusal, freshBook}
@@ -69,13 +70,6 @@ pub record Same (g : Given) (r : Ruled) : Type 0 where
   pub reply : g .reply ≡ r .reply
   pub after : Stands (g .after) (r .after)
 
--- ---- what a call gives, by its fault and whether that is 0
--- one that moves the state
-abbrev moving : (old new : State) → (Answer → List ℕ) → (counts c book out : List ℕ) → (fault : ℕ) → Bool → Given
-moving old new log counts c book out fault t =
-    let a = pick t (Done new) (Refused fault) in
-    record { reply = moved a; after = deskOf (stateAfter old a) (log a) (pick t counts c) book out }
-
 -- ---- a day opened
 pub handed-parts : (log book : List ℕ) (len : ℕ) → handedFault log book len ≡ 0
     → (logFault log ≡ 0) × (bookFault (headerOf log .rulebook) (headerOf log .date) book ≡ 0)
@@ -92,7 +86,8 @@ module _ (held log c book out : List ℕ) where
   abbrev opening : Bool → Given
   opening t =
       let counts = zeroed (kindsFor (headerOf log)) c in
-      moving Closed (Open (dayOf log)) (logAfter held log) counts c book out handedIs t
+      let a = pick t (Done (Open (dayOf log))) (Refused handedIs) in
+      record { reply = moved a; after = deskOf (stateAfter Closed a) (logAfter held log a) (pick t counts c) book out }
 
   open-step : Same (opening (eqb handedIs 0)) (openRuled (paper idle book out (length c)) log handedIs)
   unfolding openRuled answered pick
@@ -126,7 +121,8 @@ module _ (log c book out : List ℕ) (rs : List Record) (row : List ℕ) (a : Ag
   abbrev taking : Bool → Given
   taking t =
       let counts = raised (kindsFor (headerOf log)) (planIn log row) c in
-      moving (Open (dayIn log rs)) (Open (oneMore (dayIn log rs))) (λ _. log) counts c book out takeIs t
+      let a = pick t (TakeDone (Open (oneMore (dayIn log rs))) (reasonsIn log row)) (TakeRefused takeIs) in
+      record { reply = took a; after = deskOf (takeState (Open (dayIn log rs)) a) log (pick t counts c) book out }
 
   -- and what the paper says
   abbrev taken : Bool → Ruled
@@ -134,7 +130,7 @@ module _ (log c book out : List ℕ) (rs : List Record) (row : List ℕ) (a : Ag
       let after = Open (record { head = headerOf log; taken = length rs + 1 }) in
       let old = paper (during log rs) book out (length c) in
       let new = paper (during log (recordOf row ∷ rs)) book out (length c) in
-      record { reply = moved (pick t (Done after) (Refused takeIs)); after = pick t new old }
+      record { reply = took (pick t (TakeDone after (reasonsIn log row)) (TakeRefused takeIs)); after = pick t new old }
 
   take-step : Same (taking (eqb takeIs 0)) (takeRuled (paper (during log rs) book out (length c)) log rs row takeIs)
   unfolding takeRuled answered pick

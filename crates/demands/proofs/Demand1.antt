@@ -12,10 +12,12 @@ use Rattle.posting.specs.Fresh.{freshNumber}
 use Rattle.book.specs.Ask.{askNumber, askAnswerAs, askedTotal, askedRung}
 use Rattle.desk.specs.Answers.{numberOf}
 use Rattle.desk.specs.Abandon.{abandonAnswer}
+use Rattle.desk.specs.Take.{takenNumber}
 use Rattle.desk.specs.End.{endNumber, endFound}
 use Rattle.demands.specs.Calls.{Step, Desk, Given, Gives, fresh-gives, open-gives, take-gives, end-gives}
 use Rattle.demands.specs.Calls.{abandon-gives, ask-gives, lend-gives, Ran, none, next}
-use Rattle.demands.specs.Demand1.{AlwaysAnswered, OneAnswer, namedNumber, NumberNamed, valuesIn, namedValues}
+use Rattle.demands.specs.Demand1.{AlwaysAnswered, OneAnswer, namedNumber, NumberNamed, clausesIn}
+use Rattle.demands.specs.Demand1.{valuesIn, namedValues}
 use Rattle.demands.specs.Demand1.{ValuesNamed, RefusalKeeps}
 use Rattle.demands.proofs.NumberLaws.{answered-number, fresh-number, ask-number}
 use Rattle.demands.proofs.Answers.{answers}
@@ -46,7 +48,7 @@ pub number-named : NumberNamed
 unfolding namedNumber abandonAnswer
 number-named w c g (fresh-gives m) = ap freshNumber (m .answer) ∙ fresh-number _
 number-named w c g (open-gives m) = ap numberOf (m .answer) ∙ answered-number _ _
-number-named w c g (take-gives m) = ap numberOf (m .answer) ∙ answered-number _ _
+number-named w c g (take-gives m) = ap takenNumber (m .answer) ∙ answer-number _ _ takenNumber _ refl refl
 number-named w c g (end-gives m) = ap endNumber (m .answer) ∙ answer-number _ _ endNumber _ refl refl
 number-named w c g (abandon-gives e) = ap numberOf e ∙ answered-number _ _
 number-named w c g (ask-gives {group} {kind} {family} e) = ap askNumber e ∙ ask-number (w .book) group kind family
@@ -57,7 +59,7 @@ values : {w : Desk} {c : Step} {g : Given} → Gives w c g → namedNumber w c �
 unfolding namedNumber valuesIn namedValues askAnswerAs
 values (fresh-gives m) z = refl
 values (open-gives m) z = refl
-values (take-gives m) z = refl
+values (take-gives m) z = ap clausesIn (m .answer ∙ sym (answer-done _ _ _ z refl))
 values (end-gives m) z = ap (λ a. endFound a ∷ []) (m .answer ∙ sym (answer-done _ _ _ z refl))
 values (abandon-gives m) z = refl
 values (ask-gives e) z = ap (λ a. askedTotal a ∷ askedRung a ∷ []) (e ∙ sym (answer-done _ _ _ z refl))

@@ -31,3 +31,4 @@ pub mod WorkedYear
 pub mod SentLaws
 pub mod WhoeverSent
 pub mod SentExample
+pub mod Spared

@@ -34,6 +34,7 @@ use Rattle.desk.specs.Books.{freshFault, askFault, askAnswer}
 use Rattle.counts.specs.Counting.{fieldsFault}
 use Rattle.counts.specs.Weigh.{recordFault}
 use Rattle.desk.specs.Open.{fewFault, handedFault}
+use Rattle.desk.specs.Take.{takenNumber}
 use Rattle.desk.specs.End.{endNumber, rowFault}
 use Rattle.demands.specs.Calls.{Step, makeBook, openDay, takeRecord, endDay, abandonDay, askBook, lendFindings}
 use Rattle.demands.specs.Calls.{numberIn}
@@ -75,11 +76,11 @@ number-is p course (makeBook rulebook) = fresh-number (freshFault (length (p .bo
 number-is p course (askBook group kind family) = ask-number (p .book) group kind family
 number-is p course (lendFindings out) = refl
 number-is p idle (openDay log) = answered-number _ _
-number-is p idle (takeRecord row) = answered-number 10 _
+number-is p idle (takeRecord row) = refl
 number-is p idle (endDay row) = refl
 number-is p idle abandonDay = answered-number 10 _
 number-is p (during log rs) (openDay other) = answered-number 10 _
-number-is p (during log rs) (takeRecord row) = answered-number _ _
+number-is p (during log rs) (takeRecord row) = answer-number _ _ takenNumber (takeNumber log rs row) refl refl
 number-is p (during log rs) (endDay row) = end-number (endRefusal log rs row (p .book) (length (p .out))) _
 number-is p (during log rs) abandonDay = answered-number 0 _
 

@@ -18,10 +18,13 @@ use Rattle.verdict.specs.Verdict.{foundCount, findings, bookAfter}
 use Rattle.verdict.specs.Settle.{written}
 use Rattle.desk.specs.declared.state.State.the-variants.{Closed, Open}
 use Rattle.desk.specs.declared.state.Answer.the-variants.{Done as Moved, Refused as NotMoved}
+use Rattle.desk.specs.declared.take.Taken.the-variants.{Done as Took, Refused as NotTaken}
+use Rattle.counts.specs.Weigh.{reasonsIn}
+use Rattle.counts.specs.Counting.{reasonsOf}
 use Rattle.desk.specs.declared.end.Ended.the-variants.{Done, Refused}
 use Rattle.desk.specs.Open.{handedFault}
 use Rattle.demands.specs.Counts.{dayVerdict}
-use Rattle.demands.specs.Calls.{Step, moved, ended, fullRoom}
+use Rattle.demands.specs.Calls.{Step, moved, took, ended, fullRoom}
 use Rattle.demands.specs.Paper.{Course, idle, during, Paper, Ruled, dayIn, takeNumber, endRefusal, openRuled}
 use Rattle.demands.specs.Paper.{takeRuled, endRuled, rule, rules}
 use Rattle.demands.specs.Logs.{clerkCounts, recordsIn, rowsNumber, logNumber, dayFindings, dayBook, ruledFile}
@@ -72,7 +75,9 @@ module _ (book out : List ℕ) (len n : ℕ) where
   module _ (log log′ : List ℕ) (rs : List Record) (s : SameTables log log′) where
     abbrev taken : (log row : List ℕ) → Bool → Ruled
     taken l row t = record {
-      reply = moved (pick t (Moved (Open (record { head = headerOf l; taken = length rs + 1 }))) (NotMoved n));
+      reply =
+          let next = Open (record { head = headerOf l; taken = length rs + 1 }) in
+          took (pick t (Took next (reasonsIn l row)) (NotTaken n));
       after = pick t (on (during l (recordOf row ∷ rs))) (on (during l rs));
     }
 
@@ -83,7 +88,9 @@ module _ (book out : List ℕ) (len n : ℕ) where
       where
         go : (t : Bool) → eqb n 0 ≡ t → Beside (taken log row t) (taken log′ row′ t)
         go true e = record {
-          told = refl;
+          told =
+              λ i.
+              toldBy (took (Took Closed (reasonsOf (tables-same log log′ s i) (same (eqb-true n 0 e) i)))) book out;
           course = subst (λ (r : Record). Twin (during log (recordOf row ∷ rs)) (during log′ (r ∷ rs)))
               (same (eqb-true n 0 e)) (both-open s);
           len = refl;

@@ -10,11 +10,13 @@ use Rattle.book.specs.Ask.{askNumber}
 use Rattle.desk.specs.declared.state.State.{State}
 use Rattle.desk.specs.declared.state.Answer.{Answer}
 use Rattle.desk.specs.declared.state.Answer.the-variants.{Done, Refused}
+use Rattle.desk.specs.declared.take.Taken.{Taken}
+use Rattle.desk.specs.declared.take.Taken.the-variants.{Done as TakeDone, Refused as TakeRefused}
 use Rattle.desk.specs.declared.end.Ended.{Ended}
 use Rattle.desk.specs.declared.end.Ended.the-variants.{Done as EndDone, Refused as EndRefused}
 use Rattle.desk.specs.Answers.{numberOf}
 use Rattle.desk.specs.Books.{FreshGives, AskGives}
-use Rattle.desk.specs.Take.{TakeGives}
+use Rattle.desk.specs.Take.{takenNumber, TakeGives}
 use Rattle.desk.specs.Open.{OpenGives}
 use Rattle.desk.specs.Abandon.{AbandonGives}
 use Rattle.desk.specs.End.{endNumber, EndGives}
@@ -35,6 +37,7 @@ pub data Step : Type 0 where
 pub data Reply : Type 0 where
   made : NewBook → Reply
   moved : Answer → Reply
+  took : Taken → Reply
   ended : Ended → Reply
   told : Asked → Reply
   lent : Reply
@@ -43,6 +46,7 @@ pub data Reply : Type 0 where
 abbrev pub numberIn : Reply → ℕ
 numberIn (made a) = freshNumber a
 numberIn (moved a) = numberOf a
+numberIn (took a) = takenNumber a
 numberIn (ended a) = endNumber a
 numberIn (told a) = askNumber a
 numberIn lent = 0
@@ -76,6 +80,10 @@ abbrev pub logAfter : List ℕ → List ℕ → Answer → List ℕ
 logAfter old log (Done new) = log
 logAfter old log (Refused number) = old
 
+abbrev pub takeState : State → Taken → State
+takeState old (TakeDone new why) = new
+takeState old (TakeRefused number) = old
+
 abbrev pub endState : State → Ended → State
 endState old (EndDone new found) = new
 endState old (EndRefused number) = old
@@ -93,10 +101,10 @@ pub data Gives (w : Desk) : Step → Given → Type 0 where
         reply = moved a;
         after = deskOf (stateAfter (w .state) a) (logAfter (w .log) log a) counts (w .book) (w .out);
       })
-  take-gives : {row : List ℕ} {a : Answer} {counts : List ℕ}
+  take-gives : {row : List ℕ} {a : Taken} {counts : List ℕ}
       → TakeGives (w .state) (w .log) row (w .counts) a counts
       → Gives w (takeRecord row)
-      (record { reply = moved a; after = deskOf (stateAfter (w .state) a) (w .log) counts (w .book) (w .out) })
+      (record { reply = took a; after = deskOf (takeState (w .state) a) (w .log) counts (w .book) (w .out) })
   end-gives : {row : List ℕ} {a : Ended} {book out : List ℕ}
       → EndGives (w .state) (w .log) row (w .book) (w .counts) (w .out) a book out
       → Gives w (endDay row)

@@ -12,11 +12,15 @@ use Rattle.book.specs.Ask.{totalOf, askedTotal, askedRung}
 use Rattle.verdict.specs.Verdict.{foundCount}
 use Rattle.desk.specs.Books.{freshFault, askFault}
 use Rattle.desk.specs.Open.{openFault}
+use Rattle.counts.specs.declared.weigh.Reasons.{Reasons}
+use Rattle.counts.specs.Weigh.{reasonsIn}
+use Rattle.desk.specs.declared.take.Taken.{Taken}
+use Rattle.desk.specs.declared.take.Taken.the-variants.{Done, Refused}
 use Rattle.desk.specs.Take.{takeFault}
 use Rattle.desk.specs.End.{cellVerdict, endFault, endFound}
 use Rattle.desk.specs.Abandon.{abandonFault}
 use Rattle.demands.specs.Calls.{Step, makeBook, openDay, takeRecord, endDay, abandonDay, askBook, lendFindings}
-use Rattle.demands.specs.Calls.{Reply, made, moved, ended, told, lent, numberIn, Desk, Given, Gives, Ran}
+use Rattle.demands.specs.Calls.{Reply, made, moved, took, ended, told, lent, numberIn, Desk, Given, Gives, Ran}
 
 -- ---- "Each call ends with an answer whatever it is handed": for every list of steps, on every desk, there is one
 pub record Answered (w : Desk) (cs : List Step) : Type 0 where
@@ -43,23 +47,35 @@ namedNumber w (lendFindings out) = 0
 abbrev pub NumberNamed : Type 0
 NumberNamed = (w : Desk) (c : Step) (g : Given) → Gives w c g → numberIn (g .reply) ≡ namedNumber w c
 
--- ---- the values that an accepted call answers with: ending tells how many findings there are, asking a total and its
--- rung; no other call tells a value
+-- ---- the values that an accepted call answers with: taking passes on six clauses (02, K5), ending tells how many
+-- findings there are, asking a total and its rung; no other call tells a value
+-- "for both orders and each kind": the first order's clause for kind 1 and the second's, then for kinds 2 and 3
+abbrev pub passedOn : Reasons → List ℕ
+passedOn why =
+    why .first .own ∷ why .second .own ∷ why .first .frequent ∷ why .second .frequent ∷ why .first .over
+    ∷ why .second .over ∷ []
+
+-- "a refusal passes on no clause"
+abbrev pub clausesIn : Taken → List ℕ
+clausesIn (Done state why) = passedOn why
+clausesIn (Refused number) = []
+
 unfoldable pub valuesIn : Reply → List ℕ
 valuesIn (made a) = []
 valuesIn (moved a) = []
+valuesIn (took a) = clausesIn a
 valuesIn (ended a) = endFound a ∷ []
 valuesIn (told a) = askedTotal a ∷ askedRung a ∷ []
 valuesIn lent = []
 
 unfoldable pub namedValues : Desk → Step → List ℕ
+namedValues w (takeRecord row) = passedOn (reasonsIn (w .log) row)
 namedValues w (endDay row) = foundCount (cellVerdict (tablesOf (w .log)) (w .counts)) ∷ []
 namedValues w (askBook group kind family) =
     let total = totalOf (shapeOf (w .book) .kinds) (w .book) group kind family in
     total ∷ rung total ∷ []
 namedValues w (makeBook rulebook) = []
 namedValues w (openDay log) = []
-namedValues w (takeRecord row) = []
 namedValues w abandonDay = []
 namedValues w (lendFindings out) = []
 

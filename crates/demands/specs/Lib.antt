@@ -17,4 +17,5 @@ pub mod Worked
 pub mod WorkedYear
 pub mod WhoeverSent
 pub mod SentExample
+pub mod Spared
 pub mod Promised

@@ -14,6 +14,7 @@ use Rattle.daylog.specs.Records.{recordOf}
 use Rattle.daylog.specs.Rows.{rowSize}
 use Rattle.desk.specs.declared.state.Day.{Day}
 use Rattle.desk.specs.declared.state.State.the-variants.{Closed, Open}
+use Rattle.desk.specs.declared.take.Taken.the-variants.{Done as Took, Refused as NotTaken}
 use Rattle.desk.specs.declared.end.Ended.the-variants.{Done, Refused}
 use Rattle.verdict.specs.Verdict.{foundCount}
 use Rattle.verdict.specs.Settle.{shortFault, written}
@@ -21,13 +22,13 @@ use Rattle.desk.specs.declared.state.State.{State}
 use Rattle.desk.specs.declared.state.Answer.{Answer}
 use Rattle.desk.specs.declared.state.Answer.the-variants.{Done as Moved, Refused as NotMoved}
 use Rattle.desk.specs.Books.{freshFault, askAnswer}
-use Rattle.counts.specs.Weigh.{recordFault}
+use Rattle.counts.specs.Weigh.{reasonsIn, recordFault}
 use Rattle.desk.specs.Open.{handedFault}
 use Rattle.desk.specs.End.{rowFault}
 use Rattle.demands.specs.Counts.{dayVerdict}
 use Rattle.demands.specs.Days.{blank}
 use Rattle.demands.specs.Calls.{Step, makeBook, openDay, takeRecord, endDay, abandonDay, askBook, lendFindings}
-use Rattle.demands.specs.Calls.{Reply, made, moved, ended, told, lent, numberIn}
+use Rattle.demands.specs.Calls.{Reply, made, moved, took, ended, told, lent, numberIn}
 
 -- no day is open, or one is, with its tables as bytes and the records that it took, the latest first
 pub data Course : Type 0 where
@@ -83,9 +84,12 @@ unfoldable pub openRuled : Paper → List ℕ → ℕ → Ruled
 openRuled p log fault =
     record { reply = moved (movedBy fault (Open (dayIn log []))); after = pick (eqb fault 0) (at p (during log [])) p }
 
+-- a record that is taken passes on the clauses of its own codes (02, K5)
 unfoldable pub takeRuled : Paper → List ℕ → List Record → List ℕ → ℕ → Ruled
 takeRuled p log rs row fault = record {
-  reply = moved (movedBy fault (Open (record { head = headerOf log; taken = length rs + 1 })));
+  reply =
+      let next = Open (record { head = headerOf log; taken = length rs + 1 }) in
+      took (answered fault (Took next (reasonsIn log row)) NotTaken);
   after = pick (eqb fault 0) (at p (during log (recordOf row ∷ rs))) p;
 }
 
@@ -113,7 +117,7 @@ rule p course (lendFindings out) =
     record { reply = lent; after = record { course = p .course; book = p .book; out = out; len = p .len } }
 rule p course (askBook group kind family) = record { reply = told (askAnswer (p .book) group kind family); after = p }
 rule p idle (openDay log) = openRuled p log (handedFault log (p .book) (p .len))
-rule p idle (takeRecord row) = no10 p
+rule p idle (takeRecord row) = record { reply = took (NotTaken 10); after = p }
 rule p idle (endDay row) = record { reply = ended (Refused 10); after = p }
 rule p idle abandonDay = no10 p
 rule p (during log rs) (openDay other) = no10 p

@@ -13,6 +13,7 @@ use Rattle.demands.specs.Worked.{Worked, Refusals}
 use Rattle.demands.specs.WorkedYear.{WorkedYear}
 use Rattle.demands.specs.WhoeverSent.{WhoeverSent, WhoeverSentLogs}
 use Rattle.demands.specs.SentExample.{SentExample}
+use Rattle.demands.specs.Spared.{ExemptByClause, CountsByClauses}
 
 pub record Promised : Type 0 where
   -- demand 1
@@ -43,6 +44,9 @@ pub record Promised : Type 0 where
   -- request K2: the same, whoever sent it
   pub whoever-sent : WhoeverSent
   pub whoever-sent-logs : WhoeverSentLogs
+  -- request K5: why a record was spared
+  pub exempt-by-clause : ExemptByClause
+  pub counts-by-clauses : CountsByClauses
   -- demand 3, over lists of calls and over day logs
   pub three-or-five : ThreeOrFive
   pub nothing-lost : NothingLost

@@ -12,7 +12,7 @@ use Rattle.places.specs.Places.{ladderOf}
 use Rattle.desk.specs.End.{endFound}
 use Rattle.demands.specs.Samples.{bookWithOne}
 use Rattle.demands.specs.Calls.{Step, makeBook, openDay, takeRecord, endDay, abandonDay, askBook, lendFindings}
-use Rattle.demands.specs.Calls.{Reply, made, moved, ended, told, lent, Desk, Given, numbers, Ran, left}
+use Rattle.demands.specs.Calls.{Reply, made, moved, took, ended, told, lent, Desk, Given, numbers, Ran, left}
 use Rattle.demands.specs.Calls.{fullRoom}
 use Rattle.demands.specs.Logs.{clerkCounts, clerkDesk}
 use Rattle.demands.specs.Paper.{idle, during, Paper, numbersOn, paperAfter}
@@ -91,6 +91,7 @@ workedFinding = 3 ∷ 1 ∷ 0 ∷ 2 ∷ 2 ∷ 0 ∷ 101 ∷ 0 ∷ []
 abbrev pub foundBy : Reply → ℕ
 foundBy (made a) = 0
 foundBy (moved a) = 0
+foundBy (took a) = 0
 foundBy (ended a) = endFound a
 foundBy (told a) = 0
 foundBy lent = 0

@@ -8,6 +8,7 @@ use Rattle.posting.specs.declared.fresh.NewBook.{NewBook}
 use Rattle.book.specs.declared.ask.Asked.{Asked}
 use Rattle.desk.specs.declared.state.Answer.{Answer}
 use Rattle.counts.specs.declared.weigh.Weighed.{Weighed}
+use Rattle.desk.specs.declared.take.Taken.{Taken}
 use Rattle.desk.specs.declared.end.Ending.{Ending}
 use Rattle.desk.specs.declared.end.Ended.{Ended}
 use Rattle.desk.proofs.open.would_open.Reads as would-open-reads
@@ -33,7 +34,7 @@ pub would-take-unique : (κs : _) (a : _) (r₁ r₂ : Weighed) (s₁ s₂ : _) 
     → would-take-reads.Post κs a r₂ s₂ → r₁ ≡ r₂
 would-take-unique κs a r₁ r₂ s₁ s₂ p q = p ∙ sym q
 
-pub take-unique : (κs : _) (a : _) (r₁ r₂ : Answer) (s₁ s₂ : _) → take-reads.Post κs a r₁ s₁
+pub take-unique : (κs : _) (a : _) (r₁ r₂ : Taken) (s₁ s₂ : _) → take-reads.Post κs a r₁ s₁
     → take-reads.Post κs a r₂ s₂
     → (r₁ ≡ r₂) × (s₁ .1 .1 .1 .0 .now ≡ s₂ .1 .1 .1 .0 .now)
 take-unique κs a r₁ r₂ s₁ s₂ p q = one-outcome p q

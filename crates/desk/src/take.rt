@@ -1,10 +1,10 @@
 // Taking a record: what the call is handed, the record against the tables, the counts.
-use crate::state::Answer;
 use crate::state::Day;
 use crate::state::State;
 use counts::cells::plan_fault;
 use counts::cells::raise;
 use counts::weigh::Plan;
+use counts::weigh::Reasons;
 use counts::weigh::Weighed;
 use counts::weigh::weigh;
 use daylog::record::record_length;
@@ -15,6 +15,12 @@ use wire::refusal::LENGTH;
 use wire::refusal::WRONG_STATE;
 ghost use mathlib.Core.Path.{_≡_};
 ghost use Rattle.desk.specs.Take.{sizesFault, dayWeighed, wouldTake, PlanTaken, TakeGives};
+
+// The next state and why the record was spared, or the refusal's number: then the state stays as it was.
+pub enum Taken {
+    Done(State, Reasons),
+    Refused(u32),
+}
 
 // The record's length, and the number of counts.
 pub(crate) fn sizes_fault(day: Day, row: &[u8], len: usize) -> u32
@@ -42,7 +48,7 @@ fn weigh_day(day: Day, log: &[u8], row: &[u8], len: usize) -> Weighed
     weigh(head, log, row)
 }
 
-// What a record would count for, or the refusal: asked, and nothing written.
+// What a record would count for and why it is spared, or the refusal: asked, and nothing written.
 pub fn would_take(state: State, log: &[u8], row: &[u8], counts: &[u32]) -> Weighed
     ensures { λ a. ⌜ a ≡ wouldTake state (now (log .entry)) (now (row .entry)) (now (counts .entry)) ⌝ }
 {
@@ -50,7 +56,7 @@ pub fn would_take(state: State, log: &[u8], row: &[u8], counts: &[u32]) -> Weigh
         return Weighed::Refused(WRONG_STATE);
     };
     let weighed = weigh_day(day, log, row, counts.len());
-    let Weighed::Counts(p) = weighed else {
+    let Weighed::Counts(p, why) = weighed else {
         return weighed;
     };
     let head = day.head;
@@ -58,34 +64,35 @@ pub fn would_take(state: State, log: &[u8], row: &[u8], counts: &[u32]) -> Weigh
     if fault != 0 {
         return Weighed::Refused(fault);
     }
-    Weighed::Counts(p)
+    Weighed::Counts(p, why)
 }
 
 // Counts a record of an open day, one more being taken. A refusal leaves the counts.
-fn count_record(day: Day, p: Plan, counts: &mut [u32]) -> Answer
-    ensures { λ a. ⌜ PlanTaken day p (now (counts .entry)) a (now (counts .exit)) ⌝ }
+fn count_record(day: Day, p: Plan, why: Reasons, counts: &mut [u32]) -> Taken
+    ensures { λ a. ⌜ PlanTaken day p why (now (counts .entry)) a (now (counts .exit)) ⌝ }
 {
     let head = day.head;
     let fault = raise(kinds_of(head.rulebook as u64), day.taken, p, counts);
     if fault != 0 {
-        return Answer::Refused(fault);
+        return Taken::Refused(fault);
     }
-    Answer::Done(State::Open(Day {
+    let next = Day {
         head,
         taken: day.taken + 1,
-    }))
+    };
+    Taken::Done(State::Open(next), why)
 }
 
 // Takes a record: raises none, one or two counts. A refusal leaves the counts and the state.
-pub fn take(state: State, log: &[u8], row: &[u8], counts: &mut [u32]) -> Answer
+pub fn take(state: State, log: &[u8], row: &[u8], counts: &mut [u32]) -> Taken
     ensures { λ a. ⌜ TakeGives state (now (log .entry)) (now (row .entry)) (now (counts .entry)) a
         (now (counts .exit)) ⌝ }
 {
     let State::Open(day) = state else {
-        return Answer::Refused(WRONG_STATE);
+        return Taken::Refused(WRONG_STATE);
     };
     match weigh_day(day, log, row, counts.len()) {
-        Weighed::Refused(fault) => Answer::Refused(fault),
-        Weighed::Counts(p) => count_record(day, p, counts),
+        Weighed::Refused(fault) => Taken::Refused(fault),
+        Weighed::Counts(p, why) => count_record(day, p, why, counts),
     }
 }

@@ -1,13 +1,17 @@
 // The desk at full size: 32 contracts, 512 accounts, 1,000,000 records taken; then a day ended in which every ladder
 // of all 128 groups has an offence. bench/run times it beside plain Rust.
+use counts::weigh::Reasons;
 use daylog::header::header_of;
 use desk::end::Ended;
 use desk::state::Answer;
 use desk::state::Day;
 use desk::state::State;
+use desk::take::Taken;
 use libc::STDOUT_FILENO;
+use rules::exemption::Clauses;
 use wire::write::put16;
 use wire::write::put32;
+ghost use Prim.Native.Nat.{_≤_};
 
 fn put8(t: &mut [u8], at: usize, x: u8) {
     if at < t.len() {
@@ -52,19 +56,19 @@ fn next(seed: u32) -> u32 {
     ((1664525 * (seed as u64) + 1013904223) % 4294967296) as u32
 }
 
-// A record by the seed: every fourth is a trade, the others are cancels.
+// A record by the seed: every fourth is a trade, the others are cancels, for every purpose.
 fn draw(row: &mut [u8], seed: u32) {
     let trade = seed / 16777216 % 4 == 0;
     put16(row, 2, (seed / 65536 % 32 + 1) as u16);
     put32(row, 4, 7 * (seed / 4096 % 512 + 1));
     put32(row, 12, seed / 1024 % 1000 + 1);
     put8(row, 16, 1);
-    put8(row, 17, 1);
+    put8(row, 17, (seed / 256 % 4 + 1) as u8);
     if trade {
         put8(row, 0, 1);
         put32(row, 8, 7 * (seed / 2048 % 512 + 1));
         put8(row, 18, 1);
-        put8(row, 19, 1);
+        put8(row, 19, (seed / 64 % 4 + 1) as u8);
     } else {
         put8(row, 0, 2);
         put32(row, 8, 0);
@@ -73,23 +77,42 @@ fn draw(row: &mut [u8], seed: u32) {
     }
 }
 
-fn run(start: State, t: &[u8], c: &mut [u32], n: u32) -> u32 {
+// The sum of a record's clauses.
+fn clauses_in(why: Reasons) -> u64 {
+    order_sum(why.first) + order_sum(why.second)
+}
+
+fn order_sum(order: Clauses) -> u64
+    ensures { λ r. ⌜ r ≤ 765 ⌝ }
+{
+    (order.own as u64) + (order.frequent as u64) + (order.over as u64)
+}
+
+// What a run came to: the refusal's number, 0 for none, and the sum of all clauses.
+struct Came {
+    fault: u32,
+    clauses: u64,
+}
+
+fn run(start: State, t: &[u8], c: &mut [u32], n: u32) -> Came {
     let mut row = [0u8; 20];
     let mut state = start;
     let mut seed = 1;
+    let mut clauses = 0;
     for _ in 0..n {
         seed = next(seed);
         draw(&mut row, seed);
         match desk::take::take(state, t, &row, c) {
-            Answer::Done(s) => {
+            Taken::Done(s, why) => {
                 state = s;
+                clauses = std::num::wrapping_add_u64(clauses, clauses_in(why));
             }
-            Answer::Refused(x) => {
-                return x;
+            Taken::Refused(fault) => {
+                return Came { fault, clauses };
             }
         }
     }
-    0
+    Came { fault: 0, clauses }
 }
 
 fn wide(x: u32) -> u64 {
@@ -138,8 +161,10 @@ fn say(n: u64, end: &[u8]) {
 fn take_all(t: &[u8], b: &[u8], c: &mut [u32]) {
     match desk::open::open(State::Closed, t, b, c) {
         Answer::Done(state) => {
-            say(run(state, t, c, 1000000) as u64, b" ");
-            say(total(c), b"\n");
+            let came = run(state, t, c, 1000000);
+            say(came.fault as u64, b" ");
+            say(total(c), b" ");
+            say(came.clauses, b"\n");
         }
         Answer::Refused(x) => {
             say(x as u64, b"\n");

@@ -7,6 +7,7 @@ use book::ask::Asked;
 use desk::end::Ended;
 use desk::state::Answer;
 use desk::state::State;
+use desk::take::Taken;
 use posting::fresh::NewBook;
 use wire::read::get8;
 use wire::read::get32;
@@ -59,20 +60,25 @@ fn fresh(one: &[u8], state: State, book: &mut [u8]) -> Made {
     }
 }
 
-// Up to so many times the same record, up to the first refusal.
+// Up to so many times the same record, up to the first refusal: the last call tells its clauses.
 fn take_times(state: State, tables: &[u8], row: &[u8], counts: &mut [u32], times: u32) -> Made {
-    let mut now = state;
+    let mut made = came_to(state, Answer::Done(state));
     for _ in 0..times {
+        let now = made.state;
         match desk::take::take(now, tables, row, counts) {
-            Answer::Done(next) => {
-                now = next;
+            Taken::Done(next, why) => {
+                made = Made {
+                    fault: 0,
+                    state: next,
+                    told: Told::Reasons(why),
+                };
             }
-            Answer::Refused(fault) => {
+            Taken::Refused(fault) => {
                 return came_to(now, Answer::Refused(fault));
             }
         }
     }
-    came_to(now, Answer::Done(now))
+    made
 }
 
 fn end(

@@ -1,9 +1,9 @@
 // x: the exemption test asked by itself, and the line it prints.
-use crate::line::print_exemption;
+use crate::line::print_clause;
 use crate::setup::Setup;
 use crate::setup::Step;
 use crate::setup::changed;
-use rules::exemption::is_exempt;
+use rules::exemption::clause_of;
 use rules::text::Text;
 use wire::read::get8;
 ghost use mathlib.Core.Path.{_≡_};
@@ -11,15 +11,15 @@ ghost use lib.ListN.{length};
 ghost use Rattle.replay.specs.Within.{Within};
 
 // The rulebook, the edition, the contract's type, the kind, the instruction, the purpose. There is no edition but 0:
-// any other is a code that no text has, and what no text has is exempt.
-fn is_spared(one: &[u8]) -> bool {
+// any other is a code that no text has, and the clause of those is 1.
+fn clause_in(one: &[u8]) -> u8 {
     if get8(one, 2) != 0 {
-        return true;
+        return 1;
     }
     let text = Text {
         rulebook: get8(one, 1),
     };
-    is_exempt(text, get8(one, 3), get8(one, 4), get8(one, 5), get8(one, 6))
+    clause_of(text, get8(one, 3), get8(one, 4), get8(one, 5), get8(one, 6))
 }
 
 pub(crate) fn ask(one: &[u8], s: Setup) -> Step
@@ -27,6 +27,6 @@ pub(crate) fn ask(one: &[u8], s: Setup) -> Step
     ensures { λ r. ⌜ Within (r .setup) × (r .used ≡ length (now (one .entry))) ⌝ }
 {
     let mut step = changed(one, s);
-    step.printed = print_exemption(is_spared(one));
+    step.printed = print_clause(clause_in(one));
     step
 }

@@ -1,6 +1,7 @@
 // The line after a call: its letter, the refusal's number, the state, the buffers' checksums, and what else it told.
 // Calls on the book of positions look at no state and no counts, and their lines have none; the exemption test, which
 // is no call, has a line of its own.
+use counts::weigh::Reasons;
 use daylog::header::Header;
 use desk::state::State;
 use files::output::put;
@@ -9,6 +10,7 @@ ghost use Prim.Native.Nat.{_<_};
 // What an accepted call tells besides the state.
 pub(crate) enum Told {
     Nothing,
+    Reasons(Reasons),
     Findings(usize),
     // The total and its rung.
     Total(u16, u8),
@@ -18,17 +20,15 @@ pub(crate) fn bad() -> bool {
     put(b"bad script\n")
 }
 
-pub(crate) fn print_exemption(is_spared: bool) -> bool {
-    if is_spared {
-        return put(b"x 1\n");
-    }
-    put(b"x 0\n")
-}
-
 fn say(n: u64) -> bool {
     let mut digits = [0u8; 20];
     let k = io::decimal(n, &mut digits);
     put(b" ") && put(&digits[..k])
+}
+
+// The exemption test's line.
+pub(crate) fn print_clause(clause: u8) -> bool {
+    put(b"x") && say(clause as u64) && put(b"\n")
 }
 
 fn say_header(head: Header) -> bool {
@@ -47,9 +47,23 @@ fn say_state(state: State) -> bool {
     }
 }
 
+// One kind's clauses, of the first order and of the second.
+fn say_both(first: u8, second: u8) -> bool {
+    say(first as u64) && say(second as u64)
+}
+
+fn say_reasons(why: Reasons) -> bool {
+    let first = why.first;
+    let second = why.second;
+    say_both(first.own, second.own)
+        && say_both(first.frequent, second.frequent)
+        && say_both(first.over, second.over)
+}
+
 fn say_told(told: Told) -> bool {
     match told {
         Told::Nothing => true,
+        Told::Reasons(why) => say_reasons(why),
         Told::Findings(n) => say(n as u64),
         Told::Total(total, rung) => say(total as u64) && say(rung as u64),
     }

@@ -1,6 +1,6 @@
 -- The table of exemptions: its index and the way back, and its rule carried to each look-up. Assumes nothing.
 use mathlib.Core.Path.{_≡_, refl, sym, ap, _∙_}
-use mathlib.Core.Bool.{Bool, true, false, _&&_, not, and-false}
+use mathlib.Core.Bool.{Bool, true, false, _&&_, _||_, not, and-false}
 use mathlib.Core.List.{List}
 use Prim.Native.Nat.{ℕ, _+_, _*_, _-_, _/_, _%_, _≤_, _<_}
 use native.Mathlib.Omega.{arith}
@@ -13,8 +13,9 @@ use Rattle.wire.proofs.ChoiceLaws.{and-left, and-right, and-yes, bounds}
 use Rattle.wire.proofs.BelowLaws.{every-at}
 use Rattle.rules.specs.declared.lookup.Codes.{Codes}
 use Rattle.rules.specs.declared.text.Text.{Text}
+use Rattle.rules.specs.declared.exemption.Clauses.{Clauses}
 use Rattle.rules.specs.Codes.{isRulebook, hasType, hasInstruction, hasPurpose, isKind}
-use Rattle.rules.specs.Exemption.{known, exempt}
+use Rattle.rules.specs.Exemption.{byInstruction, byPurpose, known, exempt, clause, clauses}
 use Rattle.rules.specs.Sheet.{listed, entries, placeOf, codesAt, entryOf, sheetRight}
 
 -- codes that the table's lists have, each from 1 on
@@ -115,21 +116,67 @@ known-listed c e =
     (and-left (within 1 6 (c .instruction)) _ i))
     (and-left (within 1 4 (c .purpose)) (isRulebook (c .text .rulebook)) p)
 
--- codes that are on no list are exempt
+-- codes that are on no list have clause 1
 pub unlisted : (c : Codes) → listed c ≡ false → entryOf c ≡ 1
-unfolding pick entryOf exempt
+unfolding pick entryOf clause
 unlisted c e = go (knownOf c) refl
   where
     go : (t : Bool) → knownOf c ≡ t → entryOf c ≡ 1
     go true k = let none : false ≡ true = sym e ∙ known-listed c k in cc
     go false k = rw k refl
 
--- an entry that is not 0 is that of an order which is exempt
-pub exempt-entry : (c : Codes)
-    → not (eqb (entryOf c) 0) ≡ exempt (c .text) (c .sort) (c .kind) (c .instruction) (c .purpose)
-unfolding pick entryOf
-exempt-entry c = go (exempt (c .text) (c .sort) (c .kind) (c .instruction) (c .purpose))
+-- ---- an order's entries for the kinds 1, 2 and 3
+module _ (text : Text) (sort instruction purpose : ℕ) where
+  abbrev pub forKind : ℕ → Codes
+  forKind kind = record { text = text; sort = sort; kind = kind; instruction = instruction; purpose = purpose }
+
+  -- they stand 24 apart
+  pub kinds-below : listed (forKind 1) ≡ true → placeOf (forKind 1) + 48 < entries
+  unfolding placeOf
+  kinds-below e = let l = in-lists (forKind 1) e in omega arith
+
+  pub second-place : placeOf (forKind 2) ≡ placeOf (forKind 1) + 24
+  unfolding placeOf
+  second-place = omega arith
+
+  pub third-place : placeOf (forKind 3) ≡ placeOf (forKind 1) + 48
+  unfolding placeOf
+  third-place = omega arith
+
+  -- and are the order's clauses
+  pub kinds-looked-up : (table : List ℕ) (at : ℕ) → sheetRight table ≡ true → listed (forKind 1) ≡ true
+      → at ≡ placeOf (forKind 1)
+      → record { own = getD table at 0; frequent = getD table (at + 24) 0; over = getD table (at + 48) 0 }
+      ≡ clauses text sort instruction purpose
+  unfolding listed entryOf clauses
+  kinds-looked-up table at right e p =
+      let first = ap (λ (n : ℕ). getD table n 0) p ∙ looked-up table (forKind 1) right e in
+      let second = ap (λ (n : ℕ). getD table n 0) (ap (λ (n : ℕ). n + 24) p ∙ sym second-place)
+      ∙ looked-up table (forKind 2) right e in
+      let third = ap (λ (n : ℕ). getD table n 0) (ap (λ (n : ℕ). n + 48) p ∙ sym third-place)
+      ∙ looked-up table (forKind 3) right e in
+      λ i. record { own = first i; frequent = second i; over = third i }
+
+  -- each is 1 where no list has its codes
+  pub kinds-unlisted : listed (forKind 1) ≡ false
+      → record { own = 1; frequent = 1; over = 1 } ≡ clauses text sort instruction purpose
+  unfolding listed entryOf clauses
+  kinds-unlisted e =
+      let first = sym (unlisted (forKind 1) e) in
+      let second = sym (unlisted (forKind 2) e) in
+      let third = sym (unlisted (forKind 3) e) in
+      λ i. record { own = first i; frequent = second i; over = third i }
+
+-- "exempt is exactly: clause is not 0"
+pub exempt-clause : (text : Text) (type′ kind instruction purpose : ℕ)
+    → exempt text type′ kind instruction purpose ≡ not (eqb (clause text type′ kind instruction purpose) 0)
+unfolding pick exempt clause
+exempt-clause text type′ kind instruction purpose =
+    go (known text type′ kind instruction purpose) (byInstruction text kind instruction) (byPurpose text type′ kind purpose)
   where
-    go : (t : Bool) → not (eqb (pick t 1 0) 0) ≡ t
-    go true = refl
-    go false = refl
+    go : (k i p : Bool) → (not k || i || p) ≡ not (eqb (pick (not k) 1 (pick i 1 0 + pick p 2 0)) 0)
+    go false i p = refl
+    go true false false = refl
+    go true false true = refl
+    go true true false = refl
+    go true true true = refl

@@ -6,10 +6,12 @@ use Prim.Native.Nat.{ℕ}
 use Rattle.rules.specs.declared.kinds.Kinds.{Kinds}
 use Rattle.rules.specs.declared.measure.Times.{Times}
 use Rattle.rules.specs.declared.lookup.Codes.{Codes}
+use Rattle.rules.specs.declared.exemption.Clauses.{Clauses}
 use Rattle.rules.proofs.codes.has_type.Reads as has-type
 use Rattle.rules.proofs.codes.has_instruction.Reads as has-instruction
 use Rattle.rules.proofs.codes.has_purpose.Reads as has-purpose
-use Rattle.rules.proofs.exemption.is_exempt.Reads as is-exempt
+use Rattle.rules.proofs.exemption.clause_of.Reads as clause-of
+use Rattle.rules.proofs.exemption.clauses_of.Reads as clauses-of
 use Rattle.rules.proofs.kinds.kinds_of.Reads as kinds-of
 use Rattle.rules.proofs.kinds.kinds_in.Reads as kinds-in
 use Rattle.rules.proofs.kinds.first_kind.Reads as first-kind
@@ -36,9 +38,13 @@ pub has-purpose-unique : (κs : _) (a : _) (r₁ r₂ : Bool) (s₁ s₂ : _)
     → has-purpose.Post κs a r₁ s₁ → has-purpose.Post κs a r₂ s₂ → r₁ ≡ r₂
 has-purpose-unique κs a r₁ r₂ s₁ s₂ p q = p ∙ sym q
 
-pub is-exempt-unique : (κs : _) (a : _) (r₁ r₂ : Bool) (s₁ s₂ : _)
-    → is-exempt.Post κs a r₁ s₁ → is-exempt.Post κs a r₂ s₂ → r₁ ≡ r₂
-is-exempt-unique κs a r₁ r₂ s₁ s₂ p q = p ∙ sym q
+pub clause-of-unique : (κs : _) (a : _) (r₁ r₂ : ℕ) (s₁ s₂ : _)
+    → clause-of.Post κs a r₁ s₁ → clause-of.Post κs a r₂ s₂ → r₁ ≡ r₂
+clause-of-unique κs a r₁ r₂ s₁ s₂ p q = p ∙ sym q
+
+pub clauses-of-unique : (κs : _) (a : _) (r₁ r₂ : Clauses) (s₁ s₂ : _)
+    → clauses-of.Post κs a r₁ s₁ → clauses-of.Post κs a r₂ s₂ → r₁ ≡ r₂
+clauses-of-unique κs a r₁ r₂ s₁ s₂ p q = p ∙ sym q
 
 pub kinds-of-unique : (κs : _) (a : _) (r₁ r₂ : Kinds) (s₁ s₂ : _)
     → kinds-of.Post κs a r₁ s₁ → kinds-of.Post κs a r₂ s₂ → r₁ ≡ r₂

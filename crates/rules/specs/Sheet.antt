@@ -1,15 +1,15 @@
 -- 02, K3: the exemptions "in one constant table, an entry for each rulebook, contract type, kind, instruction and
--- purpose: 288 entries, with codes rulebook 2 refuses held as exempt".
+-- purpose: 288 entries, with codes rulebook 2 refuses held as exempt". Since K5 an entry is the clause.
 use Prim.Native.Nat.{ℕ, _+_, _*_, _-_, _/_, _%_}
 use mathlib.Core.Bool.{Bool, _&&_}
 use mathlib.Core.List.{List}
 use lib.Dec.{eqb}
 use lib.ListN.{getD}
-use Rattle.wire.specs.Choice.{pick, within}
+use Rattle.wire.specs.Choice.{within}
 use Rattle.wire.specs.Below.{every}
 use Rattle.rules.specs.declared.lookup.Codes.{Codes}
 use Rattle.rules.specs.Codes.{isRulebook, isKind}
-use Rattle.rules.specs.Exemption.{exempt}
+use Rattle.rules.specs.Exemption.{clause}
 
 -- the table's own lists have these codes: 2 rulebooks, 2 types, 3 kinds, 6 instructions, 4 purposes
 unfoldable pub listed : Codes → Bool
@@ -37,9 +37,9 @@ codesAt place = record {
   purpose = place % 4 + 1;
 }
 
--- what the entry of codes is: 1 where such an order is exempt for the kind, and else 0
+-- what the entry of codes is: the clause by which such an order is exempt for the kind, 0 where it is not
 unfoldable pub entryOf : Codes → ℕ
-entryOf c = pick (exempt (c .text) (c .sort) (c .kind) (c .instruction) (c .purpose)) 1 0
+entryOf c = clause (c .text) (c .sort) (c .kind) (c .instruction) (c .purpose)
 
 -- "Its rule is shown once over the whole table": every entry is what the definition says of its codes
 unfoldable pub sheetRight : List ℕ → Bool

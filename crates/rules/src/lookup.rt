@@ -16,8 +16,11 @@ pub struct Codes {
     pub purpose: u8,
 }
 
+// How far apart the entries of two neighbouring kinds stand: 6 instructions by 4 purposes.
+pub(crate) const KIND_STEP: usize = 24;
+
 // Whether the table's lists have all of these codes.
-fn is_listed(c: Codes) -> bool
+pub(crate) fn is_listed(c: Codes) -> bool
     ensures { λ r. ⌜ r ≡ listed c ⌝ }
 {
     is_rulebook(c.text.rulebook as u64)
@@ -28,7 +31,7 @@ fn is_listed(c: Codes) -> bool
 }
 
 // Where the entry of these codes stands, from 0.
-fn place_of(c: Codes) -> usize
+pub(crate) fn place_of(c: Codes) -> usize
     requires { ⌜ (1 ≤ c .text .rulebook) × (1 ≤ c .sort) × (1 ≤ c .kind) × (1 ≤ c .instruction) × (1 ≤ c .purpose) ⌝ }
     ensures { λ r. ⌜ r ≡ placeOf c ⌝ }
 {

@@ -6,9 +6,10 @@ use Rattle.posting.specs.declared.fresh.NewBook.{NewBook}
 use Rattle.book.specs.declared.ask.Asked.{Asked}
 use Rattle.desk.specs.declared.state.State.{State}
 use Rattle.desk.specs.declared.state.Answer.{Answer}
+use Rattle.desk.specs.declared.take.Taken.{Taken}
 use Rattle.desk.specs.declared.end.Ended.{Ended}
-use Rattle.demands.specs.Calls.{makeBook, openDay, takeRecord, endDay, abandonDay, askBook, made, moved, ended, told}
-use Rattle.demands.specs.Calls.{deskOf, stateAfter, logAfter, endState, Gives}
+use Rattle.demands.specs.Calls.{makeBook, openDay, takeRecord, endDay, abandonDay, askBook, made, moved, took, ended}
+use Rattle.demands.specs.Calls.{told, deskOf, stateAfter, logAfter, takeState, endState, Gives}
 
 -- a fresh book: the answer, and the book
 abbrev pub FreshTied : List ℕ → ℕ → NewBook → List ℕ → Type 0
@@ -23,10 +24,10 @@ OpenTied state log book counts a counts′ = (held out : List ℕ)
     (record { reply = moved a; after = deskOf (stateAfter state a) (logAfter held log a) counts′ book out })
 
 -- taking: the answer, and the counts
-abbrev pub TakeTied : State → (log row counts : List ℕ) → Answer → List ℕ → Type 0
+abbrev pub TakeTied : State → (log row counts : List ℕ) → Taken → List ℕ → Type 0
 TakeTied state log row counts a counts′ = (book out : List ℕ)
     → Gives (deskOf state log counts book out) (takeRecord row)
-    (record { reply = moved a; after = deskOf (stateAfter state a) log counts′ book out })
+    (record { reply = took a; after = deskOf (takeState state a) log counts′ book out })
 
 -- ending: the answer, the book and the findings
 abbrev pub EndTied : State → (log row book counts out : List ℕ) → Ended → (book′ out′ : List ℕ) → Type 0

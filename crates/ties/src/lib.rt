@@ -4,6 +4,7 @@ use book::ask::Asked;
 use desk::end::Ended;
 use desk::state::Answer;
 use desk::state::State;
+use desk::take::Taken;
 use posting::fresh::NewBook;
 ghost use Rattle.ties.specs.Tied.{FreshTied, OpenTied, TakeTied, EndTied, AbandonTied, AskTied};
 
@@ -20,7 +21,7 @@ fn open_tied(state: State, log: &[u8], book: &[u8], counts: &mut [u32]) -> Answe
     desk::open::open(state, log, book, counts)
 }
 
-fn take_tied(state: State, log: &[u8], row: &[u8], counts: &mut [u32]) -> Answer
+fn take_tied(state: State, log: &[u8], row: &[u8], counts: &mut [u32]) -> Taken
     ensures { λ a. ⌜ TakeTied state (now (log .entry)) (now (row .entry)) (now (counts .entry))
         a (now (counts .exit)) ⌝ }
 {

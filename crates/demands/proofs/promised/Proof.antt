@@ -13,6 +13,7 @@ use Rattle.demands.proofs.Worked.{worked, refusals}
 use Rattle.demands.proofs.WorkedYear.{worked-year}
 use Rattle.demands.proofs.WhoeverSent.{whoever-sent, whoever-sent-logs}
 use Rattle.demands.proofs.SentExample.{sent-example}
+use Rattle.demands.proofs.Spared.{exempt-by-clause, counts-by-clauses}
 use Rattle.demands.proofs.promised.Statement.{statement}
 use Rattle.demands.proofs.promised.Tie as tie
 
@@ -42,6 +43,8 @@ returns c = record {
   logs-found = logs-found;
   whoever-sent = whoever-sent;
   whoever-sent-logs = whoever-sent-logs;
+  exempt-by-clause = exempt-by-clause;
+  counts-by-clauses = counts-by-clauses;
   three-or-five = three-or-five;
   nothing-lost = nothing-lost;
   nothing-lost-in-logs = nothing-lost-in-logs;

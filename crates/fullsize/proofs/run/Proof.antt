@@ -6,11 +6,11 @@ use Rattle.fullsize.proofs.run.Statement.{statement}
 use Rattle.fullsize.proofs.run.Tie as tie
 
 abbrev Inv-loop : tie.InvT-loop
-Inv-loop t c₀ n row₀ state₀ seed₀ counter₀ c row state seed counter = (counter ≤ n) × (length c ≡ length c₀)
-    × (length row ≡ 20)
+Inv-loop t c₀ n row₀ state₀ seed₀ clauses₀ counter₀ c row state seed clauses counter = (counter ≤ n)
+    × (length c ≡ length c₀) × (length row ≡ 20)
 
 abbrev μ-loop : tie.MeasureT-loop
-μ-loop t c₀ n row₀ state₀ seed₀ counter₀ c row state seed counter = n - counter
+μ-loop t c₀ n row₀ state₀ seed₀ clauses₀ counter₀ c row state seed clauses counter = n - counter
 
 loop-holds : tie.Need-loop-holds Inv-loop μ-loop
 loop-holds c = search needs
@@ -33,8 +33,14 @@ take-requires c κs = search needs
 enum-known-s : tie.Need-enum-known-s Inv-loop μ-loop
 enum-known-s c = search needs
 
-enum-known-x : tie.Need-enum-known-x Inv-loop μ-loop
-enum-known-x c = search needs
+clauses-in-requires : tie.Need-clauses-in-requires Inv-loop μ-loop
+clauses-in-requires c κs = search needs
+
+wrapping-add-u64-requires : tie.Need-wrapping-add-u64-requires Inv-loop μ-loop
+wrapping-add-u64-requires c κs = search needs
+
+enum-known-fault : tie.Need-enum-known-fault Inv-loop μ-loop
+enum-known-fault c = search needs
 
 same-length : tie.Need-same-length Inv-loop μ-loop
 same-length c = search needs
@@ -70,7 +76,9 @@ run-spec =
     slice-aggregate-take
     take-requires
     enum-known-s
-    enum-known-x
+    clauses-in-requires
+    wrapping-add-u64-requires
+    enum-known-fault
     same-length
     returns
     add-counter

@@ -13,7 +13,7 @@ use Rattle.daylog.proofs.LentTables.{lent-tables, lent-short}
 use Rattle.daylog.proofs.ChangedLaws.{still-good}
 use Rattle.counts.specs.Counting.{weighed}
 use Rattle.counts.specs.declared.weigh.Weighed.the-variants.{Counts, Refused}
-use Rattle.counts.specs.Weigh.{planIn, recordFault, weighFault, weighedOn}
+use Rattle.counts.specs.Weigh.{planIn, reasonsIn, recordFault, weighFault, weighedOn}
 use borrow.Author.Needs.{needs}
 use Rattle.counts.proofs.weigh.weigh.Statement.{statement}
 use Rattle.counts.proofs.weigh.weigh.Tie as tie
@@ -100,7 +100,7 @@ returns-3 c =
     answer-then _ _ _ _ (unchanged-fault b)
     (rw (c .before .before .before .before .text-of .ensures) at (c .weigh-in .ensures)
     ∙ ap₂ weighed (lent-tables (a .head) (a .log .now) (still b .0)) (c .before .record-of .ensures)
-    ∙ ap (λ (n : ℕ). answered n (Counts (planIn (a .log .now) (a .row .now))) Refused)
+    ∙ ap (λ (n : ℕ). answered n (Counts (planIn (a .log .now) (a .row .now)) (reasonsIn (a .log .now) (a .row .now))) Refused)
     (pick-no _ _ _ _ (told _ _ _ (d .before .brokers-wrong .ensures) (d .if2 .left)) refl))
 
 pub weigh-spec : {M : Type 1} → statement M

@@ -9,7 +9,7 @@ use Rattle.counts.specs.Counting.{fieldsFault}
 use Rattle.counts.proofs.WeighLaws.{Here, no-contract, a-contract, no-account, an-account, its-group}
 use Rattle.counts.proofs.WeighLaws.{place-fits}
 use Rattle.counts.proofs.WeighLaws.{second-missing, second-there, second-none, refused-by, counts-by}
-use Rattle.counts.proofs.WeighLaws.{plan-is, plan-none}
+use Rattle.counts.proofs.WeighLaws.{plan-is, plan-none, reasons-is}
 use borrow.Author.Needs.{needs}
 use Rattle.counts.proofs.weigh.weigh_in.Statement.{statement}
 use Rattle.counts.proofs.weigh.weigh_in.Tie as tie
@@ -98,8 +98,8 @@ contract-there c = here (c .before .before .before) .has
 get8-requires : tie.Need-get8-requires
 get8-requires c κs = search needs
 
-plan-for-requires : tie.Need-plan-for-requires
-plan-for-requires c κs = search needs
+weigh-for-requires : tie.Need-weigh-for-requires
+weigh-for-requires c κs = search needs
 
 returns-4 : tie.Need-returns-4
 unfolding tablesIn
@@ -112,8 +112,11 @@ returns-4 c =
     let one = its-group (a .text) (a .contracts .now) (a .accounts .now) (a .r .first) (s .pre .1) _ e
     (b .if2 .left) in
     let other = c .before .before .if3 .taken in
-    counts-by _ (r s) _ (second-none (t s) (r s) (fields-good b) (contract-there b) (first-there b) other)
-    (c .plan-for .ensures ∙ plan-none (t s) (r s) _ _ _ (h .entry) (h .place) (c .before .get8 .ensures ∙ one) 0 other)
+    let group = c .before .get8 .ensures ∙ one in
+    c .weigh-for .ensures
+    ∙ counts-by _ (r s) _ _ (second-none (t s) (r s) (fields-good b) (contract-there b) (first-there b) other)
+    (plan-none (t s) (r s) _ _ _ (h .entry) (h .place) group 0 other)
+    (reasons-is (t s) (r s) _ _ _ (h .entry) (h .place) group)
 
 find-account-requires-2 : tie.Need-find-account-requires-2
 find-account-requires-2 c κs = search needs
@@ -133,8 +136,8 @@ get8-requires-2 c κs = search needs
 get8-requires-3 : tie.Need-get8-requires-3
 get8-requires-3 c κs = search needs
 
-plan-for-requires-2 : tie.Need-plan-for-requires-2
-plan-for-requires-2 c κs = search needs
+weigh-for-requires-2 : tie.Need-weigh-for-requires-2
+weigh-for-requires-2 c κs = search needs
 
 returns-6 : tie.Need-returns-6
 unfolding tablesIn
@@ -153,8 +156,10 @@ returns-6 c =
     let two = its-group (a .text) (a .contracts .now) (a .accounts .now) (a .r .second) (s .pre .1) _ f some in
     let group = c .before .before .get82 .ensures ∙ one in
     let group2 = c .before .get83 .ensures ∙ two in
-    counts-by _ (r s) _ (second-there (t s) (r s) (fields-good b) (contract-there b) (first-there b) there)
-    (c .plan-for2 .ensures ∙ plan-is (t s) (r s) _ _ _ (h .entry) (h .place) group _ group2)
+    c .weigh-for2 .ensures
+    ∙ counts-by _ (r s) _ _ (second-there (t s) (r s) (fields-good b) (contract-there b) (first-there b) there)
+    (plan-is (t s) (r s) _ _ _ (h .entry) (h .place) group _ group2)
+    (reasons-is (t s) (r s) _ _ _ (h .entry) (h .place) group)
 
 pub weigh-in-spec : {M : Type 1} → statement M
 weigh-in-spec =
@@ -170,11 +175,11 @@ weigh-in-spec =
     find-account-requires
     returns-3
     get8-requires
-    plan-for-requires
+    weigh-for-requires
     returns-4
     find-account-requires-2
     returns-5
     get8-requires-2
     get8-requires-3
-    plan-for-requires-2
+    weigh-for-requires-2
     returns-6)

@@ -26,8 +26,8 @@ returns c =
       after = r .raise .ensures .1;
     })
 
-add-t11 : tie.Need-add-t11
-add-t11 c = omega (
+add-t13 : tie.Need-add-t13
+add-t13 c = omega (
   arith,
   plan-fits _ _ _ _ (sym (c .before .before .before .before .raise .ensures .0)
       ∙ c .before .if1 .left) .0,
@@ -53,6 +53,6 @@ count-record-spec =
     raise-requires
     same-length
     returns
-    add-t11
+    add-t13
     same-length-2
     returns-2)

@@ -4,7 +4,8 @@ use native.Mathlib.Omega.{arith}
 use lib.ListN.{length}
 use Rattle.wire.proofs.AnswerLaws.{refused, refused-first, then-by}
 use Rattle.counts.specs.declared.weigh.Plan.{Plan}
-use Rattle.counts.specs.Weigh.{planIn}
+use Rattle.counts.specs.declared.weigh.Reasons.{Reasons}
+use Rattle.counts.specs.Weigh.{planIn, reasonsIn}
 use Rattle.counts.proofs.WeighLaws.{weighed-no, weighed-yes}
 use Rattle.desk.specs.declared.state.Day.{Day}
 use Rattle.desk.specs.Take.{heldFault, dayFault, takeFault, dayWeighed}
@@ -49,6 +50,9 @@ fault c = heldFault (day c) (args c .args .log .now) (args c .args .row .now) (l
 abbrev plan : tie.After-weigh-day → Plan
 plan c = planIn (args c .args .log .now) (args c .args .row .now)
 
+abbrev why : tie.After-weigh-day → Reasons
+why c = reasonsIn (args c .args .log .now) (args c .args .row .now)
+
 count-record-requires : tie.Need-count-record-requires
 count-record-requires c κs = search needs
 
@@ -56,7 +60,7 @@ returns-2 : tie.Need-returns-2
 unfolding takeFault dayFault dayWeighed
 returns-2 c =
     let w = c .before .before .before in
-    let j = weighed-no (fault w) (plan w) _ (sym (c .before .fault .given .1) ∙ w .weigh-day .ensures) in
+    let j = weighed-no (fault w) (plan w) (why w) _ (sym (c .before .fault .given .1) ∙ w .weigh-day .ensures) in
     rw (state w .state .given .1) (refused-first _ _ _ (j .0) (j .1))
 
 same-length : tie.Need-same-length
@@ -68,9 +72,9 @@ returns-3 c =
     let m = c .before .before in
     let p = m .before .before .before in
     let w = p .before .before in
-    let j = weighed-yes (fault w) (plan w) _ (sym (p .p .given .1) ∙ w .weigh-day .ensures) in
+    let j = weighed-yes (fault w) (plan w) (why w) _ _ (sym (p .p .given .1) ∙ w .weigh-day .ensures) in
     rw (state w .state .given .1)
-    (then-by _ _ (j .0) (rw (← held-head (day w) _ _ _ (j .0), ← j .1) (m .count-record .ensures)))
+    (then-by _ _ (j .0) (rw (← held-head (day w) _ _ _ (j .0), ← j .1, ← j .2) (m .count-record .ensures)))
 
 pub take-spec : {M : Type 1} → statement M
 take-spec =

@@ -1,11 +1,12 @@
-use mathlib.Core.Path.{_≡_, refl, sym, ap, _∙_}
+use mathlib.Core.Path.{_≡_, refl, sym, ap₂, _∙_}
 use Prim.Native.Nat.{ℕ}
 use native.Mathlib.Omega.{arith}
 use lib.ListN.{length}
 use Rattle.wire.proofs.AnswerLaws.{answer-refused, answer-done, answer-first, answer-then}
 use Rattle.counts.specs.declared.weigh.Plan.{Plan}
 use Rattle.counts.specs.declared.weigh.Weighed.the-variants.{Counts}
-use Rattle.counts.specs.Weigh.{planIn}
+use Rattle.counts.specs.declared.weigh.Reasons.{Reasons}
+use Rattle.counts.specs.Weigh.{planIn, reasonsIn}
 use Rattle.counts.proofs.WeighLaws.{weighed-no, weighed-yes}
 use Rattle.desk.specs.Take.{heldFault, dayFault, takeFault, wouldTake, dayWeighed}
 use borrow.Author.Needs.{needs}
@@ -43,12 +44,15 @@ fault c =
 abbrev plan : tie.After-weigh-day → Plan
 plan c = let a = state c .before .before .before .before .before .args in planIn (a .log .now) (a .row .now)
 
+abbrev why : tie.After-weigh-day → Reasons
+why c = let a = state c .before .before .before .before .before .args in reasonsIn (a .log .now) (a .row .now)
+
 returns-2 : tie.Need-returns-2
 unfolding wouldTake takeFault dayFault dayWeighed
 returns-2 c =
     let w = c .before .before in
     let told = c .enum-told2 .given .1 in
-    let j = weighed-no (fault w) (plan w) _ (sym told ∙ w .weigh-day .ensures) in
+    let j = weighed-no (fault w) (plan w) (why w) _ (sym told ∙ w .weigh-day .ensures) in
     rw (state w .state .given .1) (told ∙ answer-first _ _ _ _ _ (j .0) (j .1))
 
 cast-kinds-of : tie.Need-cast-kinds-of
@@ -60,12 +64,13 @@ kinds-of-requires c κs = search needs
 plan-fault-requires : tie.Need-plan-fault-requires
 plan-fault-requires c κs = search needs
 
--- no refusal before the counts, and the plan is the record's
+-- no refusal before the counts, and plan and clauses are the record's
 counts : (c : tie.After-weighed) → let w = c .before .before in (fault w ≡ 0) × (c .weighed .given .0 .0 ≡ plan w)
+    × (c .weighed .given .0 .1 .0 ≡ why w)
 unfolding dayWeighed
 counts c =
     let w = c .before .before in
-    weighed-yes (fault w) (plan w) _ (sym (c .weighed .given .1) ∙ w .weigh-day .ensures)
+    weighed-yes (fault w) (plan w) (why w) _ _ (sym (c .weighed .given .1) ∙ w .weigh-day .ensures)
 
 returns-3 : tie.Need-returns-3
 unfolding wouldTake takeFault dayFault
@@ -86,7 +91,7 @@ returns-4 c =
     rw (state (p .before .before) .state .given .1)
     (answer-then _ _ _ _ (j .0)
     (answer-done _ _ _ (sym (rw (f .before .kinds-of .ensures, j .1) at (f .plan-fault .ensures)) ∙ c .if1 .left)
-    (ap Counts (j .1))))
+    (ap₂ Counts (j .1) (j .2))))
 
 pub would-take-spec : {M : Type 1} → statement M
 would-take-spec =

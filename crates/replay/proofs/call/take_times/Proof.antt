@@ -6,11 +6,14 @@ use Rattle.replay.proofs.call.take_times.Statement.{statement}
 use Rattle.replay.proofs.call.take_times.Tie as tie
 
 abbrev Inv-loop : tie.InvT-loop
-Inv-loop tables row counts₀ times now₀ counter₀ counts now counter = (counter ≤ times)
+Inv-loop tables row counts₀ times made₀ counter₀ counts made counter = (counter ≤ times)
     × (length counts ≡ length counts₀)
 
 abbrev μ-loop : tie.MeasureT-loop
-μ-loop tables row counts₀ times now₀ counter₀ counts now counter = times - counter
+μ-loop tables row counts₀ times made₀ counter₀ counts made counter = times - counter
+
+came-to-requires : tie.Need-came-to-requires Inv-loop μ-loop
+came-to-requires c κs = search needs
 
 loop-holds : tie.Need-loop-holds Inv-loop μ-loop
 loop-holds c = search needs
@@ -24,8 +27,8 @@ enum-known-next c = search needs
 enum-known-fault : tie.Need-enum-known-fault Inv-loop μ-loop
 enum-known-fault c = search needs
 
-came-to-requires : tie.Need-came-to-requires Inv-loop μ-loop
-came-to-requires c κs = search needs
+came-to-requires-2 : tie.Need-came-to-requires-2 Inv-loop μ-loop
+came-to-requires-2 c κs = search needs
 
 same-length : tie.Need-same-length Inv-loop μ-loop
 same-length c = search needs
@@ -42,9 +45,6 @@ loop-less c = search needs
 loop-again : tie.Need-loop-again Inv-loop μ-loop
 loop-again c = search needs
 
-came-to-requires-2 : tie.Need-came-to-requires-2 Inv-loop μ-loop
-came-to-requires-2 c κs = search needs
-
 same-length-2 : tie.Need-same-length-2 Inv-loop μ-loop
 same-length-2 c = search needs
 
@@ -57,16 +57,16 @@ take-times-spec =
     (tie.spec
     Inv-loop
     μ-loop
+    came-to-requires
     loop-holds
     take-requires
     enum-known-next
     enum-known-fault
-    came-to-requires
+    came-to-requires-2
     same-length
     returns
     add-counter
     loop-less
     loop-again
-    came-to-requires-2
     same-length-2
     returns-2)

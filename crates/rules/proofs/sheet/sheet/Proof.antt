@@ -1,14 +1,14 @@
 use mathlib.Core.Path.{refl}
 use Rattle.wire.specs.Choice.{pick}
 use Rattle.wire.specs.Below.{every}
-use Rattle.rules.specs.Exemption.{known, exempt}
+use Rattle.rules.specs.Exemption.{known, clause}
 use Rattle.rules.specs.Sheet.{codesAt, entryOf, sheetRight}
 use Rattle.rules.proofs.sheet.sheet.Statement.{statement}
 use Rattle.rules.proofs.sheet.sheet.Tie as tie
 
 -- the one computed test of the whole table
 returns : tie.Need-returns
-unfolding pick every known exempt codesAt entryOf sheetRight
+unfolding pick every known clause codesAt entryOf sheetRight
 returns c = refl
 
 pub sheet-spec : {M : Type 1} → statement M

@@ -16,15 +16,15 @@ fn leaves() {
     dates::tested();
     say::number(
         b"rulebook 2, plain limit, ordinary: clause for kind 2",
-        rules::exemption::clause_of(Text { rulebook: 2 }, 1, 2, 1, 1) as u64,
+        exemptions::clause::clause_of(Text { rulebook: 2 }, 1, 2, 1, 1) as u64,
     );
     say::number(
         b"rulebook 2, plain limit, ordinary: clause for kind 3",
-        rules::exemption::clause_of(Text { rulebook: 2 }, 1, 3, 1, 1) as u64,
+        exemptions::clause::clause_of(Text { rulebook: 2 }, 1, 3, 1, 1) as u64,
     );
     say::number(
         b"rulebook 2, stop order, hedge: clause for kind 2",
-        rules::exemption::clause_of(Text { rulebook: 2 }, 1, 2, 3, 2) as u64,
+        exemptions::clause::clause_of(Text { rulebook: 2 }, 1, 2, 3, 2) as u64,
     );
     say::number(
         b"family of DCE futures",

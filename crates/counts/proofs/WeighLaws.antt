@@ -13,9 +13,9 @@ use Rattle.wire.specs.Outcomes.{answered}
 use Rattle.wire.proofs.ChoiceLaws.{pick-yes, pick-no, and-yes, and-no, and-no-right, flip-yes, flip-no}
 use Rattle.wire.proofs.AnswerLaws.{answer-refused, answer-done}
 use Rattle.rules.specs.declared.text.Text.{Text}
-use Rattle.rules.specs.declared.exemption.Clauses.{Clauses}
-use Rattle.rules.specs.Exemption.{exempt, clause, clauses}
-use Rattle.rules.proofs.SheetLaws.{exempt-clause}
+use Rattle.exemptions.specs.declared.clause.Clauses.{Clauses}
+use Rattle.exemptions.specs.Exemption.{exempt, clause, clauses}
+use Rattle.exemptions.proofs.SheetLaws.{exempt-clause}
 use Rattle.tables.specs.declared.contracts.Contract.{Contract}
 use Rattle.tables.specs.declared.contracts.Found.{Found}
 use Rattle.tables.specs.declared.contracts.Found.the-variants.{At, Nothing}

@@ -6,8 +6,8 @@ use lib.Dec.{eqb}
 use Rattle.wire.specs.Choice.{pick}
 use Rattle.wire.specs.Outcomes.{answered}
 use Rattle.rules.specs.declared.text.Text.{Text}
-use Rattle.rules.specs.declared.exemption.Clauses.{Clauses}
-use Rattle.rules.specs.Exemption.{exempt, clauses}
+use Rattle.exemptions.specs.declared.clause.Clauses.{Clauses}
+use Rattle.exemptions.specs.Exemption.{exempt, clauses}
 use Rattle.rules.specs.Measure.{large}
 use Rattle.tables.specs.declared.contracts.Contract.{Contract}
 use Rattle.daylog.specs.declared.record.Record.{Record}

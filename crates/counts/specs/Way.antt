@@ -6,7 +6,7 @@ use Prim.Native.Nat.{ℕ, _≤_}
 use mathlib.Core.List.{List}
 use lib.Dec.{eqb}
 use lib.ListN.{getD}
-use Rattle.rules.specs.declared.exemption.Clauses.{Clauses}
+use Rattle.exemptions.specs.declared.clause.Clauses.{Clauses}
 use Rattle.rules.specs.declared.kinds.Kinds.{Kinds}
 use Rattle.rules.specs.declared.text.Text.{Text}
 use Rattle.rules.specs.Measure.{large}

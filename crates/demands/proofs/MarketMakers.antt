@@ -3,7 +3,7 @@ use mathlib.Core.Path.{refl}
 use Rattle.wire.specs.Choice.{pick}
 use Rattle.wire.specs.Below.{every, some, first}
 use Rattle.rules.specs.Choices.{byThree}
-use Rattle.rules.specs.Exemption.{known, exempt}
+use Rattle.exemptions.specs.Exemption.{known, exempt}
 use Rattle.rules.specs.Measure.{enough}
 use Rattle.rules.specs.Ladders.{family}
 use Rattle.tables.specs.Accounts.{accountPlace, isIn, groupIn}

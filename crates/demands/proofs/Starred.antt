@@ -10,7 +10,7 @@ use Rattle.wire.specs.Choice.{pick}
 use Rattle.wire.specs.Below.{every, some, first}
 use Rattle.calendar.specs.Dates.{realDay, monthDays, daysIn, dayNumber}
 use Rattle.rules.specs.Choices.{byThree}
-use Rattle.rules.specs.Exemption.{known, exempt}
+use Rattle.exemptions.specs.Exemption.{known, exempt}
 use Rattle.rules.specs.Measure.{enough}
 use Rattle.rules.specs.Ladders.{family, rung}
 use Rattle.rules.specs.Kinds.{kindsOf, kindsIn, firstKind}

@@ -18,7 +18,7 @@ use Rattle.wire.proofs.BelowLaws.{every-at, count-cong}
 use Rattle.wire.proofs.BufferLaws.{rows-cong, put-whole}
 use Rattle.calendar.specs.Dates.{realDay, monthDays, daysIn, dayNumber}
 use Rattle.rules.specs.Choices.{byThree}
-use Rattle.rules.specs.Exemption.{known, exempt}
+use Rattle.exemptions.specs.Exemption.{known, exempt}
 use Rattle.rules.specs.Measure.{enough}
 use Rattle.rules.specs.Ladders.{family, rung, sanction}
 use Rattle.rules.specs.Kinds.{kindsOf, kindsIn, firstKind}

@@ -13,7 +13,7 @@ use Rattle.wire.specs.Below.{every, some, first}
 use Rattle.wire.specs.Bytes.{le}
 use Rattle.calendar.specs.Dates.{year, realDay, monthDays}
 use Rattle.rules.specs.Choices.{byThree}
-use Rattle.rules.specs.Exemption.{known, exempt}
+use Rattle.exemptions.specs.Exemption.{known, exempt}
 use Rattle.rules.specs.Measure.{enough}
 use Rattle.rules.specs.Ladders.{family}
 use Rattle.rules.specs.Kinds.{kindsOf, kindsIn, firstKind}

@@ -6,7 +6,7 @@ use mathlib.Core.Bool.{_&&_, not}
 use Prim.Native.Nat.{ℕ}
 use lib.Dec.{eqb}
 use Rattle.rules.specs.declared.text.Text.{Text}
-use Rattle.rules.specs.Exemption.{exempt, clause}
+use Rattle.exemptions.specs.Exemption.{exempt, clause}
 use Rattle.rules.specs.Measure.{large}
 use Rattle.daylog.specs.declared.record.Record.{Record}
 use Rattle.tables.specs.Tables.{Tables, contractOf, groupOf}

@@ -3,7 +3,7 @@ use crate::line::print_clause;
 use crate::setup::Setup;
 use crate::setup::Step;
 use crate::setup::changed;
-use rules::exemption::clause_of;
+use exemptions::clause::clause_of;
 use rules::text::Text;
 use wire::read::get8;
 ghost use mathlib.Core.Path.{_≡_};

@@ -1,4 +1,3 @@
 pub mod FamilyLaws
 pub mod KindLaws
-pub mod SheetLaws
 pub mod Unique

@@ -5,13 +5,9 @@ use mathlib.Core.Bool.{Bool}
 use Prim.Native.Nat.{ℕ}
 use Rattle.rules.specs.declared.kinds.Kinds.{Kinds}
 use Rattle.rules.specs.declared.measure.Times.{Times}
-use Rattle.rules.specs.declared.lookup.Codes.{Codes}
-use Rattle.rules.specs.declared.exemption.Clauses.{Clauses}
 use Rattle.rules.proofs.codes.has_type.Reads as has-type
 use Rattle.rules.proofs.codes.has_instruction.Reads as has-instruction
 use Rattle.rules.proofs.codes.has_purpose.Reads as has-purpose
-use Rattle.rules.proofs.exemption.clause_of.Reads as clause-of
-use Rattle.rules.proofs.exemption.clauses_of.Reads as clauses-of
 use Rattle.rules.proofs.kinds.kinds_of.Reads as kinds-of
 use Rattle.rules.proofs.kinds.kinds_in.Reads as kinds-in
 use Rattle.rules.proofs.kinds.first_kind.Reads as first-kind
@@ -22,8 +18,6 @@ use Rattle.rules.proofs.limit.is_over.Reads as is-over
 use Rattle.rules.proofs.measure.is_large.Reads as is-large
 use Rattle.rules.proofs.measure.enough_of.Reads as enough-of
 use Rattle.rules.proofs.measure.is_reached.Reads as is-reached
-use Rattle.rules.proofs.lookup.codes_at.Reads as codes-at
-use Rattle.rules.proofs.lookup.entry_of.Reads as entry-of
 use Rattle.rules.proofs.text.is_rulebook.Reads as is-rulebook
 
 pub has-type-unique : (κs : _) (a : _) (r₁ r₂ : Bool) (s₁ s₂ : _)
@@ -37,14 +31,6 @@ has-instruction-unique κs a r₁ r₂ s₁ s₂ p q = p ∙ sym q
 pub has-purpose-unique : (κs : _) (a : _) (r₁ r₂ : Bool) (s₁ s₂ : _)
     → has-purpose.Post κs a r₁ s₁ → has-purpose.Post κs a r₂ s₂ → r₁ ≡ r₂
 has-purpose-unique κs a r₁ r₂ s₁ s₂ p q = p ∙ sym q
-
-pub clause-of-unique : (κs : _) (a : _) (r₁ r₂ : ℕ) (s₁ s₂ : _)
-    → clause-of.Post κs a r₁ s₁ → clause-of.Post κs a r₂ s₂ → r₁ ≡ r₂
-clause-of-unique κs a r₁ r₂ s₁ s₂ p q = p ∙ sym q
-
-pub clauses-of-unique : (κs : _) (a : _) (r₁ r₂ : Clauses) (s₁ s₂ : _)
-    → clauses-of.Post κs a r₁ s₁ → clauses-of.Post κs a r₂ s₂ → r₁ ≡ r₂
-clauses-of-unique κs a r₁ r₂ s₁ s₂ p q = p ∙ sym q
 
 pub kinds-of-unique : (κs : _) (a : _) (r₁ r₂ : Kinds) (s₁ s₂ : _)
     → kinds-of.Post κs a r₁ s₁ → kinds-of.Post κs a r₂ s₂ → r₁ ≡ r₂
@@ -85,14 +71,6 @@ enough-of-unique κs a r₁ r₂ s₁ s₂ p q = p ∙ sym q
 pub is-reached-unique : (κs : _) (a : _) (r₁ r₂ : Bool) (s₁ s₂ : _)
     → is-reached.Post κs a r₁ s₁ → is-reached.Post κs a r₂ s₂ → r₁ ≡ r₂
 is-reached-unique κs a r₁ r₂ s₁ s₂ p q = p ∙ sym q
-
-pub codes-at-unique : (κs : _) (a : _) (r₁ r₂ : Codes) (s₁ s₂ : _)
-    → codes-at.Post κs a r₁ s₁ → codes-at.Post κs a r₂ s₂ → r₁ ≡ r₂
-codes-at-unique κs a r₁ r₂ s₁ s₂ p q = p ∙ sym q
-
-pub entry-of-unique : (κs : _) (a : _) (r₁ r₂ : ℕ) (s₁ s₂ : _)
-    → entry-of.Post κs a r₁ s₁ → entry-of.Post κs a r₂ s₂ → r₁ ≡ r₂
-entry-of-unique κs a r₁ r₂ s₁ s₂ p q = p ∙ sym q
 
 pub is-rulebook-unique : (κs : _) (a : _) (r₁ r₂ : Bool) (s₁ s₂ : _)
     → is-rulebook.Post κs a r₁ s₁ → is-rulebook.Post κs a r₂ s₂ → r₁ ≡ r₂

@@ -5,13 +5,13 @@ use crate::words::put_number;
 use crate::words::put_purpose;
 use crate::words::put_rulebook;
 use crate::words::put_sort;
+use exemptions::lookup::Codes;
+use exemptions::lookup::codes_at;
+use exemptions::lookup::entry_of;
+use exemptions::sheet::ENTRIES;
 use files::output::put;
 use rules::codes::has_instruction;
 use rules::codes::has_type;
-use rules::lookup::Codes;
-use rules::lookup::codes_at;
-use rules::lookup::entry_of;
-use rules::sheet::ENTRIES;
 ghost use Prim.Native.Nat.{_<_};
 
 fn is_asked(asked: u8, code: u8) -> bool {

@@ -1,6 +1,6 @@
 // Which entries the program's words ask for.
 use check::same;
-use rules::lookup::Codes;
+use exemptions::lookup::Codes;
 use rules::text::Text;
 ghost use Prim.Native.Nat.{_<_};
 

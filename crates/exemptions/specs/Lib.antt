@@ -1,0 +1,2 @@
+pub mod Exemption
+pub mod Sheet

@@ -1,5 +1,4 @@
 // One day of the desk, from standard input: opened, its records taken, ended.
-use crate::input::fill_from_input;
 use daylog::header::header_of;
 use daylog::record::record_length;
 use desk::end::Ended;
@@ -26,6 +25,12 @@ pub(crate) enum Outcome {
     // The number of findings.
     Ended(usize),
     Refused(u32),
+}
+
+fn fill_from_input(buf: &mut [u8]) -> Got
+    ensures { λ r. ⌜ r .count ≤ length (now (buf .exit)) ⌝ }
+{
+    office::input::fill_from_input(b"clerk", buf)
 }
 
 // Records passed: the state after them, the place of the first that was not taken, and the refusal's number, 0 for

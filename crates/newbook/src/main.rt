@@ -13,22 +13,13 @@ use places::book_size;
 use positions::books::BOOK;
 use posting::fresh::NewBook;
 use rules::kinds::kinds_of;
+use words::number::number_in;
 
 // The rulebook that the first word names: one digit and no more. Anything else is 0, which no rulebook has.
 fn rulebook_asked() -> u64 {
-    let mut word = [0u8; 2];
+    let mut word = [0u8; 1];
     let len = os::arg(1, &mut word);
-    if len != 1 {
-        return 0;
-    }
-    let digit = word[0];
-    if digit < b'0' {
-        return 0;
-    }
-    if b'9' < digit {
-        return 0;
-    }
-    (digit - b'0') as u64
+    number_in(&word[0..len]) as u64
 }
 
 fn is_positions_asked() -> bool {

@@ -1,15 +1,13 @@
 // How a clerk's run ends: with the day's findings and the new book, or with a refusal.
 use crate::keep::make_ready;
 use crate::keep::replace;
-use crate::line::add_text;
+use crate::lines::write_count;
 use crate::print::print_day;
-use crate::print::print_refusal;
 use crate::said::fail;
+use words::line::add_text;
 ghost use Prim.Native.Nat.{_≤_};
 ghost use lib.ListN.{length};
 ghost use Rattle.libc.specs.Io.{Status};
-
-const DONE: i32 = 0;
 
 const FAILED: i32 = -1;
 
@@ -84,8 +82,5 @@ pub fn finish(
 pub fn refuse(who: &[u8], number: u32) -> i32
     ensures { λ r. ⌜ Status r ⌝ }
 {
-    if !print_refusal(number) {
-        return fail(who, b"standard output", b" cannot be written");
-    }
-    DONE
+    write_count(who, b"refused ", number as u64)
 }

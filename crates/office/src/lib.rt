@@ -4,6 +4,6 @@
 pub mod close;
 pub mod input;
 pub mod keep;
-mod line;
+pub mod lines;
 mod print;
 pub mod said;

@@ -1,10 +1,11 @@
 // What the clerk reads: each line is made whole, and then written at once.
-use crate::line::add_number;
-use crate::line::add_text;
 use daylog::header::header_of;
 use files::output::put;
 use wire::read::get8;
 use wire::read::get16;
+use words::codes::add_rulebook;
+use words::line::add_number;
+use words::line::add_text;
 ghost use Prim.Native.Nat.{_≤_};
 ghost use lib.ListN.{length};
 
@@ -12,31 +13,21 @@ ghost use lib.ListN.{length};
 const LINE: usize = 32;
 
 // A word, a number and the line's end, printed.
-fn print_count(word: &[u8], n: u64) -> bool {
+pub(crate) fn print_count(word: &[u8], n: u64) -> bool {
     let mut line = [0u8; LINE];
     let at = add_text(&mut line, 0, word);
     let end = add_number(&mut line, at, n, b'\n');
     put(&line[0..end])
 }
 
-// The exchange by its rulebook, with the line's end.
-fn add_exchange(line: &mut [u8], at: usize, rulebook: u8) -> usize
-    requires { ⌜ at ≤ length (now line) ⌝ }
-    ensures { λ r. ⌜ r ≤ length (now (line .exit)) ⌝ }
-{
-    if rulebook == 1 {
-        return add_text(line, at, b"DCE\n");
-    }
-    add_text(line, at, b"CFX\n")
-}
-
 // The mark comes with the space after it. Every log has its rulebook and its date in the same places.
-fn print_heading(mark: &[u8], log: &[u8]) -> bool {
+pub(crate) fn print_heading(mark: &[u8], log: &[u8]) -> bool {
     let head = header_of(log);
     let mut line = [0u8; LINE];
     let date = add_text(&mut line, 0, mark);
     let exchange = add_number(&mut line, date, head.date as u64, b' ');
-    let end = add_exchange(&mut line, exchange, head.rulebook);
+    let rest = add_rulebook(&mut line, exchange, head.rulebook);
+    let end = add_text(&mut line, rest, b"\n");
     put(&line[0..end])
 }
 
@@ -78,8 +69,4 @@ pub(crate) fn print_day(mark: &[u8], log: &[u8], findings: &[u8], found: usize) 
     print_heading(mark, log)
         && print_findings(findings, found)
         && print_count(b"findings ", found as u64)
-}
-
-pub(crate) fn print_refusal(number: u32) -> bool {
-    print_count(b"refused ", number as u64)
 }

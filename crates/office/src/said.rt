@@ -1,6 +1,6 @@
 // What is said on standard error: who says it, what of, and the words after that.
-use crate::line::add_text;
 use libc::STDERR_FILENO;
+use words::line::add_text;
 ghost use Prim.Native.Nat.{_≤_};
 ghost use lib.ListN.{length};
 ghost use Rattle.libc.specs.Io.{Status};

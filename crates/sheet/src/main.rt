@@ -2,7 +2,6 @@
 // `--rulebook 1` narrow it.
 mod page;
 mod request;
-mod words;
 
 use libc::STDERR_FILENO;
 use request::Request;

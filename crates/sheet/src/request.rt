@@ -2,6 +2,7 @@
 use check::same;
 use exemptions::lookup::Codes;
 use rules::text::Text;
+use words::number::number_in;
 ghost use Prim.Native.Nat.{_<_};
 
 pub(crate) enum Request {
@@ -23,17 +24,8 @@ fn any() -> Codes {
 // The word at a place as a code: one digit and no more. Anything else is 0, which no list has.
 fn code_at(place: usize) -> u8 {
     let mut word = [0u8; 1];
-    if os::arg(place, &mut word) != 1 {
-        return 0;
-    }
-    let digit = word[0];
-    if digit < b'0' {
-        return 0;
-    }
-    if b'9' < digit {
-        return 0;
-    }
-    digit - b'0'
+    let len = os::arg(place, &mut word);
+    number_in(&word[0..len]) as u8
 }
 
 // What was asked for, and the code that one more word names.

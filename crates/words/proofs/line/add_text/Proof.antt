@@ -2,8 +2,8 @@ use mathlib.Core.Path.{_≡_}
 use Prim.Native.Nat.{_-_, _≤_}
 use lib.ListN.{length}
 use borrow.Author.Needs.{needs}
-use Rattle.office.proofs.line.add_text.Statement.{statement}
-use Rattle.office.proofs.line.add_text.Tie as tie
+use Rattle.words.proofs.line.add_text.Statement.{statement}
+use Rattle.words.proofs.line.add_text.Tie as tie
 
 abbrev Inv-loop : tie.InvT-loop
 Inv-loop line₀ at text next₀ i₀ i-end line next i = (i ≤ length text) × (length line ≡ length line₀)
@@ -11,6 +11,9 @@ Inv-loop line₀ at text next₀ i₀ i-end line next i = (i ≤ length text) ×
 
 abbrev μ-loop : tie.MeasureT-loop
 μ-loop line₀ at text next₀ i₀ i-end line next i = length text - i
+
+place-in-requires : tie.Need-place-in-requires Inv-loop μ-loop
+place-in-requires c κs = search needs
 
 loop-holds : tie.Need-loop-holds Inv-loop μ-loop
 loop-holds c = search needs
@@ -42,6 +45,7 @@ add-text-spec =
     (tie.spec
     Inv-loop
     μ-loop
+    place-in-requires
     loop-holds
     shared-slice-read-add-byte
     add-byte-requires

@@ -1,7 +1,14 @@
 // A line that is made: each `add` puts something at a place and answers the next place. What goes past the line's end
-// is left out.
+// is left out, and a place past it counts as its end.
 ghost use Prim.Native.Nat.{_≤_};
 ghost use lib.ListN.{length};
+
+// The place itself, or the line's end where it is past that.
+fn place_in(at: usize, len: usize) -> usize
+    ensures { λ r. ⌜ r ≤ len ⌝ }
+{
+    if at < len { at } else { len }
+}
 
 fn add_byte(line: &mut [u8], at: usize, x: u8) -> usize
     requires { ⌜ at ≤ length (now line) ⌝ }
@@ -14,11 +21,10 @@ fn add_byte(line: &mut [u8], at: usize, x: u8) -> usize
     at
 }
 
-pub(crate) fn add_text(line: &mut [u8], at: usize, text: &[u8]) -> usize
-    requires { ⌜ at ≤ length (now line) ⌝ }
+pub fn add_text(line: &mut [u8], at: usize, text: &[u8]) -> usize
     ensures { λ r. ⌜ r ≤ length (now (line .exit)) ⌝ }
 {
-    let mut next = at;
+    let mut next = place_in(at, line.len());
     for i in 0..text.len() {
         next = add_byte(line, next, text[i]);
     }
@@ -26,8 +32,7 @@ pub(crate) fn add_text(line: &mut [u8], at: usize, text: &[u8]) -> usize
 }
 
 // A number, and the byte after it.
-pub(crate) fn add_number(line: &mut [u8], at: usize, n: u64, after: u8) -> usize
-    requires { ⌜ at ≤ length (now line) ⌝ }
+pub fn add_number(line: &mut [u8], at: usize, n: u64, after: u8) -> usize
     ensures { λ r. ⌜ r ≤ length (now (line .exit)) ⌝ }
 {
     let mut digits = [0u8; 20];

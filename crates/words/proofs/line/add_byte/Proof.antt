@@ -1,8 +1,8 @@
 use native.Mathlib.Omega.{arith}
 use lib.ListN.{length-set}
 use borrow.Author.Needs.{needs}
-use Rattle.office.proofs.line.add_byte.Statement.{statement}
-use Rattle.office.proofs.line.add_byte.Tie as tie
+use Rattle.words.proofs.line.add_byte.Statement.{statement}
+use Rattle.words.proofs.line.add_byte.Tie as tie
 
 slice-write-line : tie.Need-slice-write-line
 slice-write-line c = search needs

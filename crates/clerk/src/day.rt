@@ -6,20 +6,16 @@ use desk::state::Answer;
 use desk::state::State;
 use desk::take::Taken;
 use files::input::Got;
+use office::input::END;
+use office::input::TURNS;
 use places::MOST_CELLS;
 use wire::refusal::FULL;
 use wire::refusal::LENGTH;
 ghost use Prim.Native.Nat.{_≤_};
 ghost use lib.ListN.{length};
 
-// The type of the end record.
-const END: u8 = 3;
-
 // The bytes read at once: 3,276 whole records of 20 bytes or 2,730 of 24, so that none straddles two pieces.
 const PIECE: usize = 65520;
-
-// More turns than there are pieces: each takes a record or is the last, and the 1,000,001st record is refused.
-const TURNS: u32 = 1000001;
 
 pub(crate) enum Outcome {
     // The number of findings.

@@ -13,9 +13,8 @@ use Rattle.wire.specs.Outcomes.{answered}
 use Rattle.wire.proofs.ChoiceLaws.{pick-yes, pick-no, and-yes, and-no, and-no-right, flip-yes, flip-no}
 use Rattle.wire.proofs.AnswerLaws.{answer-refused, answer-done}
 use Rattle.rules.specs.declared.text.Text.{Text}
-use Rattle.exemptions.specs.declared.clause.Clauses.{Clauses}
 use Rattle.exemptions.specs.Exemption.{exempt, clause, clauses}
-use Rattle.exemptions.proofs.SheetLaws.{exempt-clause}
+use Rattle.exemptions.proofs.ClauseLaws.{exempt-clause}
 use Rattle.tables.specs.declared.contracts.Contract.{Contract}
 use Rattle.tables.specs.declared.contracts.Found.{Found}
 use Rattle.tables.specs.declared.contracts.Found.the-variants.{At, Nothing}
@@ -123,9 +122,9 @@ module _ (t : Tables) (r : Record) (good : recordGood (t .text) r ≡ true)
 
 -- ---- what a record counts as, by its clauses
 -- an order counts where its clause is 0
-spared-not : (text : Text) (sort kind instruction purpose : ℕ)
+no-clause : (text : Text) (sort kind instruction purpose : ℕ)
     → eqb (clause text sort kind instruction purpose) 0 ≡ not (exempt text sort kind instruction purpose)
-spared-not text sort kind instruction purpose =
+no-clause text sort kind instruction purpose =
     go (eqb (clause text sort kind instruction purpose) 0) ∙ sym (ap not (exempt-clause text sort kind instruction purpose))
   where
     go : (b : Bool) → b ≡ not (not b)
@@ -144,18 +143,18 @@ module _ (text : Text) (e : Contract) (r : Record) where
       go true q =
           rw (
             q,
-            ← spared-not text (e .sort) 1 (r .instruction) (r .purpose),
-            ← spared-not text (e .sort) 1 (r .instruction2) (r .purpose2),
+            ← no-clause text (e .sort) 1 (r .instruction) (r .purpose),
+            ← no-clause text (e .sort) 1 (r .instruction2) (r .purpose2),
           ) refl
       go false q = rw q refl
 
   pub frequent-by : frequentBy r (why .first) ≡ frequentCancel text e r
   unfolding reasonsFor clauses
-  frequent-by = rw (← spared-not text (e .sort) 2 (r .instruction) (r .purpose)) refl
+  frequent-by = rw (← no-clause text (e .sort) 2 (r .instruction) (r .purpose)) refl
 
   pub large-by : largeBy text e r (why .first) ≡ largeCancel text e r
   unfolding reasonsFor clauses
-  large-by = rw (← spared-not text (e .sort) 3 (r .instruction) (r .purpose)) refl
+  large-by = rw (← no-clause text (e .sort) 3 (r .instruction) (r .purpose)) refl
 
 -- a cancel has no second group
 no-second : (text : Text) (e : Contract) (r : Record) (place group a b : ℕ) → (r .sort ≡ 1 → ⊥)

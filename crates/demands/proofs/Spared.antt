@@ -1,7 +1,7 @@
 -- 02, K5: the theorems to specs/Spared. Assumes nothing.
 use mathlib.Core.Path.{sym, _∙_}
 use mathlib.Core.Bool.{or-false}
-use Rattle.exemptions.proofs.SheetLaws.{exempt-clause}
+use Rattle.exemptions.proofs.ClauseLaws.{exempt-clause}
 use Rattle.tables.specs.Tables.{contractOf, groupOf}
 use Rattle.counts.specs.Counting.{planFor, planOf, reasonsOf, countsAs}
 use Rattle.counts.proofs.WeighLaws.{self-trade-by, frequent-by, large-by}

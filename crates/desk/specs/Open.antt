@@ -4,6 +4,7 @@ use mathlib.Core.List.{List, _++_}
 use lib.Dec.{ltb}
 use lib.ListN.{length, drop, replicate}
 use Rattle.wire.specs.Choice.{pick, orElse}
+use Rattle.wire.specs.Outcomes.{Outcome}
 use Rattle.rules.specs.declared.kinds.Kinds.{Kinds}
 use Rattle.rules.specs.Kinds.{kindsOf}
 use Rattle.daylog.specs.declared.header.Header.{Header}
@@ -14,7 +15,7 @@ use Rattle.desk.specs.declared.state.Day.{Day}
 use Rattle.desk.specs.declared.state.State.{State}
 use Rattle.desk.specs.declared.state.State.the-variants.{Closed, Open}
 use Rattle.desk.specs.declared.state.Answer.{Answer}
-use Rattle.desk.specs.Answers.{Moves}
+use Rattle.desk.specs.declared.state.Answer.the-variants.{Done, Refused}
 
 -- the kinds of the rulebook that a header names
 abbrev pub kindsFor : Header → Kinds
@@ -45,4 +46,5 @@ zeroed kinds c = replicate (cells kinds) 0 ++ drop (cells kinds) c
 -- what `open` gives: the open day or the refusal, and the counts
 abbrev pub OpenGives : State → (log book c : List ℕ) → Answer → List ℕ → Type 0
 OpenGives state log book c =
-    Moves (openFault state log book (length c)) (Open (dayOf log)) (zeroed (kindsFor (headerOf log)) c) c
+    Outcome (openFault state log book (length c)) (Done (Open (dayOf log))) Refused
+    (zeroed (kindsFor (headerOf log)) c) c

@@ -77,6 +77,5 @@ PlanTaken day p why c =
 -- what `take` gives: the next state with the clauses or the refusal, and the counts
 abbrev pub TakeGives : State → (log row c : List ℕ) → Taken → List ℕ → Type 0
 TakeGives state log row c =
-    let p = planIn log row in
     Outcome (takeFault state log row c) (Done (takeNext state) (reasonsIn log row)) Refused
-    (raised (kindsFor (headerOf log)) p c) c
+    (raised (kindsFor (headerOf log)) (planIn log row) c) c

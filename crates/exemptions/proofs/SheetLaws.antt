@@ -1,6 +1,6 @@
 -- The table of exemptions: its index and the way back, and its rule carried to each look-up. Assumes nothing.
 use mathlib.Core.Path.{_≡_, refl, sym, ap, _∙_}
-use mathlib.Core.Bool.{Bool, true, false, _&&_, _||_, not, and-false}
+use mathlib.Core.Bool.{Bool, true, false, _&&_, and-false}
 use mathlib.Core.List.{List}
 use Prim.Native.Nat.{ℕ, _+_, _*_, _-_, _/_, _%_, _≤_, _<_}
 use native.Mathlib.Omega.{arith}
@@ -13,9 +13,8 @@ use Rattle.wire.proofs.ChoiceLaws.{and-left, and-right, and-yes, bounds}
 use Rattle.wire.proofs.BelowLaws.{every-at}
 use Rattle.exemptions.specs.declared.lookup.Codes.{Codes}
 use Rattle.rules.specs.declared.text.Text.{Text}
-use Rattle.exemptions.specs.declared.clause.Clauses.{Clauses}
 use Rattle.rules.specs.Codes.{isRulebook, hasType, hasInstruction, hasPurpose, isKind}
-use Rattle.exemptions.specs.Exemption.{byInstruction, byPurpose, known, exempt, clause, clauses}
+use Rattle.exemptions.specs.Exemption.{known, clause, clauses}
 use Rattle.exemptions.specs.Sheet.{listed, entries, placeOf, codesAt, entryOf, sheetRight}
 
 -- codes that the table's lists have, each from 1 on
@@ -135,11 +134,11 @@ module _ (text : Text) (sort instruction purpose : ℕ) where
   unfolding placeOf
   kinds-below e = let l = in-lists (forKind 1) e in omega arith
 
-  pub second-place : placeOf (forKind 2) ≡ placeOf (forKind 1) + 24
+  second-place : placeOf (forKind 2) ≡ placeOf (forKind 1) + 24
   unfolding placeOf
   second-place = omega arith
 
-  pub third-place : placeOf (forKind 3) ≡ placeOf (forKind 1) + 48
+  third-place : placeOf (forKind 3) ≡ placeOf (forKind 1) + 48
   unfolding placeOf
   third-place = omega arith
 
@@ -166,17 +165,3 @@ module _ (text : Text) (sort instruction purpose : ℕ) where
       let second = sym (unlisted (forKind 2) e) in
       let third = sym (unlisted (forKind 3) e) in
       λ i. record { own = first i; frequent = second i; over = third i }
-
--- "exempt is exactly: clause is not 0"
-pub exempt-clause : (text : Text) (type′ kind instruction purpose : ℕ)
-    → exempt text type′ kind instruction purpose ≡ not (eqb (clause text type′ kind instruction purpose) 0)
-unfolding pick exempt clause
-exempt-clause text type′ kind instruction purpose =
-    go (known text type′ kind instruction purpose) (byInstruction text kind instruction) (byPurpose text type′ kind purpose)
-  where
-    go : (k i p : Bool) → (not k || i || p) ≡ not (eqb (pick (not k) 1 (pick i 1 0 + pick p 2 0)) 0)
-    go false i p = refl
-    go true false false = refl
-    go true false true = refl
-    go true true false = refl
-    go true true true = refl

@@ -45,7 +45,7 @@ exempt text type′ kind instruction purpose =
 
 -- the clause: "0 not exempt, 1 instruction, 2 purpose, 3 both. Codes that rulebook 2 refuses give 1", and so do all
 -- codes that the rulebook does not have, whatever the purpose. It is not 0 exactly where the order is exempt
--- (proofs/SheetLaws, `exempt-clause`).
+-- (proofs/ClauseLaws, `exempt-clause`).
 unfoldable pub clause : Text → (type′ kind instruction purpose : ℕ) → ℕ
 clause text type′ kind instruction purpose =
     pick (not (known text type′ kind instruction purpose)) 1

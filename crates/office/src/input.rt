@@ -10,6 +10,12 @@ ghost use lib.ListN.{length};
 // The longest header with tables: 32 contracts and 512 accounts.
 pub const TABLES: usize = 4368;
 
+// The type of the end record, which ends a day log's reading.
+pub const END: u8 = 3;
+
+// More turns than that takes: each takes a record or is the last, and the 1,000,001st record is refused.
+pub const TURNS: u32 = 1000001;
+
 // Standard input that cannot be read counts as cut off there, and the clerk is told why.
 pub fn fill_from_input(who: &[u8], buf: &mut [u8]) -> Got
     ensures { λ r. ⌜ r .count ≤ length (now (buf .exit)) ⌝ }

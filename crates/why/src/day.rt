@@ -8,6 +8,8 @@ use desk::state::Answer;
 use desk::state::State;
 use libc::STDERR_FILENO;
 use office::close::refuse;
+use office::input::END;
+use office::input::TURNS;
 use office::input::fill_from_input;
 use office::lines::write_count;
 use office::lines::write_heading;
@@ -20,14 +22,8 @@ use wire::refusal::FULL;
 use wire::refusal::LENGTH;
 ghost use Prim.Native.Nat.{_≤_};
 
-// The type of the end record.
-const END: u8 = 3;
-
 // The longest record.
 const ROW: usize = 24;
-
-// More turns than there are records: the 1,000,001st is refused.
-const TURNS: u32 = 1000001;
 
 enum Told {
     // How many lines were written.

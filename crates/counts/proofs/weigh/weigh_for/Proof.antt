@@ -1,4 +1,4 @@
-use mathlib.Core.Path.{refl, _∙_}
+use mathlib.Core.Path.{refl}
 use Rattle.counts.specs.Counting.{planFor}
 use Rattle.counts.proofs.WeighLaws.{self-trade-by, frequent-by, large-by}
 use borrow.Author.Needs.{needs}

@@ -1,11 +1,8 @@
-use mathlib.Core.Path.{_≡_}
-use mathlib.Core.Bool.{true}
 use Prim.Native.Nat.{_+_, _<_}
 use native.Mathlib.Omega.{arith}
 use Rattle.wire.proofs.ChoiceLaws.{told-yes, told-no}
-use Rattle.exemptions.specs.declared.lookup.Codes.{Codes}
-use Rattle.exemptions.specs.Sheet.{listed, entries}
-use Rattle.exemptions.proofs.SheetLaws.{in-lists, forKind, kinds-below, kinds-looked-up, kinds-unlisted}
+use Rattle.exemptions.specs.Sheet.{entries}
+use Rattle.exemptions.proofs.SheetLaws.{in-lists, kinds-below, kinds-looked-up, kinds-unlisted}
 use borrow.Author.Needs.{needs}
 use Rattle.exemptions.proofs.clause.clauses_of.Statement.{statement}
 use Rattle.exemptions.proofs.clause.clauses_of.Tie as tie

@@ -5,6 +5,7 @@ use crate::ending::{unless, Endings};
 use crate::run::{command, run};
 use crate::sheet;
 use crate::stage::{empty_folder, has_status, prints, text, Example, Stage};
+use crate::why::why;
 use std::fs;
 use std::path::{Path, PathBuf};
 use std::process::{Command, Output};
@@ -55,11 +56,14 @@ fn start(place: &Path, folder: &Path, words: &[&str], input: &[u8]) -> Result<Ou
     run(command, folder, input, Feed::Pipe).map_err(text)
 }
 
-/// A fresh book of either desk with a day on it, the sample one for the clerk, and the sheet of exemptions.
+/// A fresh book of either desk with a day on it, the sample one for the clerk, why its first record counts, and the
+/// sheet of exemptions.
 fn day(stage: &Stage, place: &Path) -> Result<(), String> {
     let log = fs::read(stage.root.join("examples/20240305.axd")).map_err(text)?;
-    day_of(stage, place, &desk::DAYS, log)?;
+    let told = why(&["1"], &mut &log[..]).map_err(text)?.text;
+    day_of(stage, place, &desk::DAYS, log.clone())?;
     let folder = day_of(stage, place, &desk::POSITIONS, (desk::POSITIONS.example_log)(20240305))?;
+    prints(&start(place, &folder, &["why", "1"], &log)?, &told)?;
     prints(&start(place, &folder, &["sheet"], &[])?, &sheet::page([0; 5]))
 }
 

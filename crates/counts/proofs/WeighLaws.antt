@@ -1,7 +1,7 @@
 -- Laws of a record weighed: the searches say what the tables have, and the answer is the number or the plan.
 -- Assumes nothing.
 use mathlib.Core.Path.{_≡_, refl, sym, ap, ap₂, _∙_}
-use mathlib.Core.Bool.{Bool, true, false, not, _&&_}
+use mathlib.Core.Bool.{Bool, true, false, not, _&&_, Bool·not-not}
 use mathlib.Core.List.{List}
 use Prim.Native.Nat.{ℕ, _≤_, _<_}
 use native.Mathlib.Omega.{arith}
@@ -125,11 +125,8 @@ module _ (t : Tables) (r : Record) (good : recordGood (t .text) r ≡ true)
 no-clause : (text : Text) (sort kind instruction purpose : ℕ)
     → eqb (clause text sort kind instruction purpose) 0 ≡ not (exempt text sort kind instruction purpose)
 no-clause text sort kind instruction purpose =
-    go (eqb (clause text sort kind instruction purpose) 0) ∙ sym (ap not (exempt-clause text sort kind instruction purpose))
-  where
-    go : (b : Bool) → b ≡ not (not b)
-    go true = refl
-    go false = refl
+    sym (Bool·not-not (eqb (clause text sort kind instruction purpose) 0))
+    ∙ sym (ap not (exempt-clause text sort kind instruction purpose))
 
 module _ (text : Text) (e : Contract) (r : Record) where
   abbrev why : Reasons

@@ -12,7 +12,9 @@ pub exempt-clause : (text : Text) (type′ kind instruction purpose : ℕ)
     → exempt text type′ kind instruction purpose ≡ not (eqb (clause text type′ kind instruction purpose) 0)
 unfolding pick exempt clause
 exempt-clause text type′ kind instruction purpose =
-    go (known text type′ kind instruction purpose) (byInstruction text kind instruction) (byPurpose text type′ kind purpose)
+    go (known text type′ kind instruction purpose)
+    (byInstruction text kind instruction)
+    (byPurpose text type′ kind purpose)
   where
     go : (k i p : Bool) → (not k || i || p) ≡ not (eqb (pick (not k) 1 (pick i 1 0 + pick p 2 0)) 0)
     go false i p = refl

@@ -97,10 +97,11 @@ returns-3 c =
     let d = c .before .before .before .before .before .before in
     let b = d .before .before in
     let a = start b .args in
+    let counts = Counts (planIn (a .log .now) (a .row .now)) (reasonsIn (a .log .now) (a .row .now)) in
     answer-then _ _ _ _ (unchanged-fault b)
     (rw (c .before .before .before .before .text-of .ensures) at (c .weigh-in .ensures)
     ∙ ap₂ weighed (lent-tables (a .head) (a .log .now) (still b .0)) (c .before .record-of .ensures)
-    ∙ ap (λ (n : ℕ). answered n (Counts (planIn (a .log .now) (a .row .now)) (reasonsIn (a .log .now) (a .row .now))) Refused)
+    ∙ ap (λ (n : ℕ). answered n counts Refused)
     (pick-no _ _ _ _ (told _ _ _ (d .before .brokers-wrong .ensures) (d .if2 .left)) refl))
 
 pub weigh-spec : {M : Type 1} → statement M

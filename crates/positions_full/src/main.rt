@@ -11,6 +11,7 @@ use verdict::settle::Settled;
 use wire::write::put8;
 use wire::write::put16;
 use wire::write::put32;
+use words::number::number_in;
 
 const DATE: u32 = 20240305;
 
@@ -129,28 +130,6 @@ fn run(log: &mut [u8], times: u32) {
             say(number as u64, b"\n");
         }
     }
-}
-
-// The number with one digit more. One that is too large stays so.
-fn longer(n: u32, digit: u8) -> u32 {
-    if 10000 < n {
-        100001
-    } else {
-        10 * n + (digit as u32)
-    }
-}
-
-// A decimal number up to 100,000, or more than that for a larger one. 0 for a word that is none.
-fn number_in(word: &[u8]) -> u32 {
-    let mut n = 0;
-    for i in 0..word.len() {
-        let x = word[i];
-        if (x < b'0') | (b'9' < x) {
-            return 0;
-        }
-        n = longer(n, x % 16);
-    }
-    n
 }
 
 // How often to judge: a few times where nothing is said, as the gate runs it under an emulator.

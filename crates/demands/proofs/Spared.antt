@@ -14,10 +14,8 @@ pub counts-by-clauses : CountsByClauses
 unfolding planFor planOf reasonsOf countsAs
 counts-by-clauses = record {
   self-trade = λ t r.
-      or-false _ ∙ or-false _
-      ∙ sym
-      (self-trade-by (t .text) (t .contract (contractOf t (r .contract))) r (groupOf t (r .first)) (groupOf t (r .second)));
-  frequent = λ t r.
-      or-false _ ∙ sym (frequent-by (t .text) (t .contract (contractOf t (r .contract))) r);
+      let e = t .contract (contractOf t (r .contract)) in
+      or-false _ ∙ or-false _ ∙ sym (self-trade-by (t .text) e r (groupOf t (r .first)) (groupOf t (r .second)));
+  frequent = λ t r. or-false _ ∙ sym (frequent-by (t .text) (t .contract (contractOf t (r .contract))) r);
   large-one = λ t r. sym (large-by (t .text) (t .contract (contractOf t (r .contract))) r);
 }

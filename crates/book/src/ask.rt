@@ -8,7 +8,7 @@ use crate::sound::is_sound_as;
 use rules::kinds::{Kinds, first_kind, kinds_in};
 use wire::refusal::{NOT_SOUND, OUT_OF_RANGE};
 
-#[derive(Drop)]
+#[derive(Clone, Copy)]
 pub enum Asked {
     // The total, and its rung: 0 for total 0.
     Total(u16, u8),

@@ -7,7 +7,7 @@ use rules::kinds::{Kinds, kinds_of};
 // A mark is these two, "AX", and the shape's letter: compared on checking, and written in a head.
 pub const MARK: [u8; 2] = [0x41, 0x58];
 
-#[derive(Drop)]
+#[derive(Clone, Copy)]
 pub struct Shape {
     pub letter: u8,
     pub kinds: Kinds,

@@ -1,4 +1,6 @@
 // Real days of the Gregorian calendar from 2000 to 2099, written as yyyymmdd.
+#![tactic(auto)]
+
 ghost use Rattle.std.specs.Prelude.{◌≡◌, ◌≤◌};
 ghost use Rattle.calendar.specs.Dates.{year, leap, month_days, real_day, days_in, day_number};
 

@@ -5,14 +5,14 @@ use desk::state::{Answer, State};
 use desk::take::Taken;
 
 // The first refusal's number, or 0, and the state so far.
-#[derive(Drop)]
+#[derive(Clone, Copy)]
 pub(crate) struct Run {
     pub(crate) fault: u32,
     pub(crate) state: State,
 }
 
 // The first refusal's number, or 0, and the number of findings.
-#[derive(Drop)]
+#[derive(Clone, Copy)]
 pub(crate) struct Over {
     pub(crate) fault: u32,
     pub(crate) found: usize,

@@ -1,5 +1,7 @@
 // Runs document 01's cases and slips, and K1's and K5's of document 02, on the library's own functions and calls, and
 // prints each with what came out. The file `stdout` says what the documents say.
+#![tactic(auto)]
+
 mod build;
 mod dates;
 mod day;

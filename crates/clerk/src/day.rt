@@ -14,7 +14,7 @@ use wire::refusal::{FULL, LENGTH};
 // The bytes read at once: 3,276 whole records of 20 bytes or 2,730 of 24, so that none straddles two pieces.
 const PIECE: usize = 65520;
 
-#[derive(Drop)]
+#[derive(Clone, Copy)]
 pub(crate) enum Outcome {
     // The number of findings.
     Ended(usize),
@@ -29,7 +29,7 @@ fn fill_from_input(buf: &mut [u8]) -> Got
 
 // Records passed: the state after them, the place of the first that was not taken, and the refusal's number, 0 for
 // none.
-#[derive(Drop)]
+#[derive(Clone, Copy)]
 struct Passed {
     state: State,
     at: usize,

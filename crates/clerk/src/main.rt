@@ -1,5 +1,7 @@
 // The clerk's program: judges the day log on standard input against `book.axb` in the working folder, prints the day's
 // findings and writes the book back. The desk decides; nothing is printed before the outcome is known.
+#![tactic(auto)]
+
 mod day;
 
 use day::Outcome;

@@ -20,7 +20,7 @@ use wire::read::get8;
 use wire::refusal::{CHANGED, FIELDS, NO_ACCOUNT, NO_CONTRACT};
 
 // The group and the contract's place for which a record counts, and as which kinds.
-#[derive(Drop)]
+#[derive(Clone, Copy)]
 pub struct Plan {
     pub group: u8,
     pub place: u16,
@@ -30,14 +30,14 @@ pub struct Plan {
 }
 
 // Why it was spared: the clauses of its first order and of its second. A cancel has no second order, and all 0 there.
-#[derive(Drop)]
+#[derive(Clone, Copy)]
 pub struct Reasons {
     pub first: Clauses,
     pub second: Clauses,
 }
 
 // What a record counts for and why it was spared, or the refusal.
-#[derive(Drop)]
+#[derive(Clone, Copy)]
 pub enum Weighed {
     Counts(Plan, Reasons),
     Refused(u32),

@@ -8,7 +8,7 @@ use wire::read::{get8, get16};
 pub(crate) const WITH_BROKERS: u16 = 2;
 
 // Those of a record's two orders; 0 is not known, or none.
-#[derive(Drop)]
+#[derive(Clone, Copy)]
 pub struct Brokers {
     pub first: u16,
     pub second: u16,

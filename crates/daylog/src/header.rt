@@ -11,7 +11,7 @@ use wire::read::{get8, get16, get32};
 use wire::refusal::{ACCOUNT_ENTRY, CONTRACT_ENTRY, DATE, LENGTH, MARK, RULEBOOK, SIZES, VERSION};
 
 // The header's fields after the mark.
-#[derive(Drop)]
+#[derive(Clone, Copy)]
 pub struct Header {
     pub rulebook: u8,
     pub version: u16,

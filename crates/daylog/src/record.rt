@@ -7,7 +7,7 @@ use rules::measure::Lots;
 use rules::text::Text;
 use wire::read::{get8, get16, get32};
 
-#[derive(Drop)]
+#[derive(Clone, Copy)]
 pub struct Record {
     pub sort: u8,
     pub spare: u8,

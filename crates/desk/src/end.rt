@@ -23,7 +23,7 @@ use verdict::settle::Settled;
 use wire::read::get32;
 use wire::refusal::{CHANGED, FIELDS, FINDINGS_SHORT, OTHER_NUMBER, WRONG_STATE};
 
-#[derive(Drop)]
+#[derive(Clone, Copy)]
 pub enum Ended {
     // The closed state, and the number of findings.
     Done(State, usize),
@@ -31,7 +31,7 @@ pub enum Ended {
 }
 
 // What an ending would give: the number of findings, or the refusal.
-#[derive(Drop)]
+#[derive(Clone, Copy)]
 pub enum Ending {
     Finds(usize),
     Refused(u32),

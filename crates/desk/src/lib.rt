@@ -1,5 +1,7 @@
 // The desk's calls, and the same questions asked without writing. The caller keeps the state, and lends the tables,
 // the book, the counts and the findings.
+#![tactic(auto)]
+
 pub mod abandon;
 pub mod books;
 pub mod end;

@@ -2,20 +2,20 @@
 use daylog::header::Header;
 
 // An open day: the whole header as numbers, and the records taken.
-#[derive(Drop)]
+#[derive(Clone, Copy)]
 pub struct Day {
     pub head: Header,
     pub taken: u32,
 }
 
-#[derive(Drop)]
+#[derive(Clone, Copy)]
 pub enum State {
     Closed,
     Open(Day),
 }
 
 // The next state, or the refusal's number: then the state stays as it was.
-#[derive(Drop)]
+#[derive(Clone, Copy)]
 pub enum Answer {
     Done(State),
     Refused(u32),

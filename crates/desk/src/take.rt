@@ -11,7 +11,7 @@ use rules::kinds::kinds_of;
 use wire::refusal::{COUNTS_SHORT, LENGTH, WRONG_STATE};
 
 // The next state and why the record was spared, or the refusal's number: then the state stays as it was.
-#[derive(Drop)]
+#[derive(Clone, Copy)]
 pub enum Taken {
     Done(State, Reasons),
     Refused(u32),

@@ -7,7 +7,7 @@ use crate::sheet::sheet;
 use rules::text::Text;
 
 // An order's clauses, for self-trade, frequent and large cancels.
-#[derive(Drop)]
+#[derive(Clone, Copy)]
 pub struct Clauses {
     pub own: u8,
     pub frequent: u8,

@@ -7,7 +7,7 @@ use rules::text::{Text, is_rulebook};
 
 // What an entry is for: the text of the day, the contract's type, the kind of offence, the order's instruction and its
 // purpose.
-#[derive(Drop)]
+#[derive(Clone, Copy)]
 pub struct Codes {
     pub text: Text,
     pub sort: u8,

@@ -6,7 +6,7 @@ use crate::known::known_of;
 use libc::{EINTR, ENOENT, S_IFMT, S_IFREG, STDERR_FILENO};
 
 // How many bytes came, and whether a read failed after them. Fewer than asked for is the end of what can be read.
-#[derive(Drop)]
+#[derive(Clone, Copy)]
 pub struct Got {
     pub count: usize,
     pub failed: bool,

@@ -7,7 +7,7 @@ use libc::types::{stat, timespec};
 const LAST: usize = PATH_MAX - 1;
 
 // Owner, group and mode, with the kind of file in it; a mode of 0 where the system does not tell, and errno says why.
-#[derive(Drop)]
+#[derive(Clone, Copy)]
 pub(crate) struct Known {
     pub(crate) mode: u32,
     pub(crate) owner: u32,

@@ -1,5 +1,7 @@
 // The desk at full size: 32 contracts, 512 accounts, 1,000,000 records taken; then a day ended in which every ladder
 // of all 128 groups has an offence. bench/run times it beside plain Rust.
+#![tactic(auto)]
+
 ghost use Rattle.std.specs.Prelude.{◌≤◌};
 
 use counts::weigh::Reasons;
@@ -87,7 +89,7 @@ fn order_sum(order: Clauses) -> u64
 }
 
 // What a run came to: the refusal's number, 0 for none, and the sum of all clauses.
-#[derive(Drop)]
+#[derive(Clone, Copy)]
 struct Came {
     fault: u32,
     clauses: u64,

@@ -1,5 +1,7 @@
 // Makes a fresh book in the working folder, for the rulebook that its first word names: `book.axb`, or with the word
 // `positions` after it `positions.axq`. It never touches a file that is there.
+#![tactic(auto)]
+
 use check::same;
 use files::output::{flush_folder, put, store};
 use libc::STDERR_FILENO;

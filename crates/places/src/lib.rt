@@ -1,4 +1,6 @@
 // Sizes, and where ladders and cells stand, by the kinds that are kept.
+#![tactic(auto)]
+
 ghost use Rattle.std.specs.Prelude.{◌≡◌, ◌-◌};
 ghost use Rattle.places.specs.Places.{ladders, cells, book_size, group_at, kind_at, cell_of};
 

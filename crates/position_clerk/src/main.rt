@@ -1,5 +1,7 @@
 // The clerk's program for positions: judges the position log on standard input against `positions.axq` in the working
 // folder, prints the day's findings and writes the book back. Nothing is printed before the outcome is known.
+#![tactic(auto)]
+
 ghost use Rattle.std.specs.Prelude.{◌≡◌, ◌≤◌, length};
 
 use files::input::Got;

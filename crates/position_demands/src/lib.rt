@@ -1,5 +1,7 @@
 // What was asked for of positions, stated in specs/ and proved in proofs/; and what ties it to the code: where a call
 // promises less than the runs go by, its function here is not proved. Nobody calls them.
+#![tactic(auto)]
+
 ghost use Rattle.position_demands.specs.Promised.{Promised};
 ghost use Rattle.position_demands.specs.Tied.{FreshTied, JudgeTied, AskTied};
 

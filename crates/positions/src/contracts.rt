@@ -6,7 +6,7 @@ use rules::measure::Lots;
 use wire::read::{get8, get16, get32};
 
 // A contract with its limits.
-#[derive(Drop)]
+#[derive(Clone, Copy)]
 pub struct Limited {
     pub id: u16,
     pub sort: u8,

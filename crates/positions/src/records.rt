@@ -6,7 +6,7 @@ use rules::measure::Lots;
 use wire::read::{get16, get32};
 
 // What an account holds of a contract.
-#[derive(Drop)]
+#[derive(Clone, Copy)]
 pub struct Position {
     pub contract: u16,
     pub spare: u16,

@@ -1,5 +1,7 @@
 // Positions at full size: the longest position log, judged as often as the first word says, or 3 times without one.
 // bench/run times it beside plain Rust; bench/positions.rs says how the log is made and what is printed.
+#![tactic(auto)]
+
 use libc::{STDERR_FILENO, STDOUT_FILENO};
 use positions::books::{BOOK, FINDINGS, fresh};
 use positions::judge::judge;

@@ -13,7 +13,7 @@ use rules::text::is_rulebook;
 use wire::refusal::{NOT_SOUND, RULEBOOK};
 use wire::write::put16;
 
-#[derive(Drop)]
+#[derive(Clone, Copy)]
 pub enum NewBook {
     Made,
     Refused(u32),

@@ -27,7 +27,7 @@ pub(crate) fn within_limits(one: &[u8]) -> bool {
 }
 
 // What a call came to: the refusal's number or 0, the state to keep, and what else an accepted call tells.
-#[derive(Drop)]
+#[derive(Clone, Copy)]
 pub(crate) struct Made {
     pub(crate) fault: u32,
     pub(crate) state: State,
@@ -128,7 +128,7 @@ fn make(
 }
 
 // The state to keep after a call, and whether its line went out.
-#[derive(Drop)]
+#[derive(Clone, Copy)]
 pub(crate) struct Called {
     pub(crate) state: State,
     pub(crate) printed: bool,

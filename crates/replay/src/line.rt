@@ -9,7 +9,7 @@ use desk::state::State;
 use files::output::put;
 
 // What an accepted call tells besides the state.
-#[derive(Drop)]
+#[derive(Clone, Copy)]
 pub(crate) enum Told {
     Nothing,
     Reasons(Reasons),

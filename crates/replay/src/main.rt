@@ -1,6 +1,8 @@
 // Replays a script of calls on the library and prints a line after each: for support and for tests. A script's steps
 // set up the state and the buffers, make a call or ask the exemption test; one that breaks the rules gets `bad script`
 // and ends there.
+#![tactic(auto)]
+
 mod call;
 mod exemption;
 mod line;

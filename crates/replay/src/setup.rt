@@ -9,7 +9,7 @@ use daylog::header::Header;
 use desk::state::{Day, State};
 use wire::read::{get8, get16, get32};
 
-#[derive(Drop)]
+#[derive(Clone, Copy)]
 pub(crate) struct Setup {
     pub(crate) state: State,
     pub(crate) counts: usize,
@@ -21,7 +21,7 @@ pub(crate) struct Setup {
 }
 
 // The bytes that a step took, 0 where it breaks the rules, whether what it prints went out, and the setup after it.
-#[derive(Drop)]
+#[derive(Clone, Copy)]
 pub(crate) struct Step {
     pub(crate) used: usize,
     pub(crate) printed: bool,

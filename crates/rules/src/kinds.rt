@@ -3,7 +3,7 @@ ghost use Rattle.std.specs.Prelude.{◌≡◌};
 ghost use Rattle.rules.specs.Kinds.{kinds_of, kinds_in, first_kind};
 
 // The kinds that one book keeps: one of them by itself, 5; or 1 to 3; or 1 to 4.
-#[derive(Drop)]
+#[derive(Clone, Copy)]
 pub enum Kinds {
     One,
     Three,

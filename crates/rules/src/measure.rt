@@ -5,10 +5,10 @@ ghost use Rattle.rules.specs.Measure.{large, enough, reached};
 
 use crate::text::Text;
 
-#[derive(Drop)]
+#[derive(Clone, Copy)]
 pub struct Lots(pub u32);
 
-#[derive(Drop)]
+#[derive(Clone, Copy)]
 pub struct Times(pub u32);
 
 // Whether a cancel of so many lots is large on a contract with this largest order.

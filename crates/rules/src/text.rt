@@ -2,7 +2,7 @@
 ghost use Rattle.std.specs.Prelude.{◌≡◌};
 ghost use Rattle.rules.specs.Codes.{is_rulebook};
 
-#[derive(Drop)]
+#[derive(Clone, Copy)]
 pub struct Text {
     pub rulebook: u8,
 }

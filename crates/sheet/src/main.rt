@@ -1,5 +1,7 @@
 // Prints the table of exemptions as a page of words, a line an entry, to be read aloud and ticked off. Words such as
 // `--rulebook 1` narrow it.
+#![tactic(auto)]
+
 mod page;
 mod request;
 

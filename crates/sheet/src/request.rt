@@ -6,7 +6,7 @@ use exemptions::lookup::Codes;
 use rules::text::Text;
 use words::number::number_in;
 
-#[derive(Drop)]
+#[derive(Clone, Copy)]
 pub(crate) enum Request {
     // Entries with these codes, where 0 is any code.
     For(Codes),

@@ -6,7 +6,7 @@ ghost use Rattle.tables.specs.Way.{account_from, halved, found_account};
 
 use crate::word::word;
 
-#[derive(Drop)]
+#[derive(Clone, Copy)]
 pub struct Account {
     pub number: u32,
     pub group: u8,

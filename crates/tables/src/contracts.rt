@@ -7,7 +7,7 @@ use crate::word::word;
 use rules::measure::Lots;
 use rules::text::Text;
 
-#[derive(Drop)]
+#[derive(Clone, Copy)]
 pub struct Contract {
     pub id: u16,
     pub sort: u8,
@@ -73,7 +73,7 @@ pub fn contract_at(part: &[u8], k: usize) -> Contract
 }
 
 // What the search for a contract finds: its place, from 0, and its entry.
-#[derive(Drop)]
+#[derive(Clone, Copy)]
 pub enum Found {
     At(usize, Contract),
     Nothing,

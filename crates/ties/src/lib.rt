@@ -1,5 +1,7 @@
 // What ties the demands to the code: where a call promises less than their runs go by, its function here is no longer
 // proved. Nobody calls them.
+#![tactic(auto)]
+
 ghost use Rattle.ties.specs.Tied.{FreshTied, OpenTied, TakeTied, EndTied, AbandonTied, AskTied};
 
 use book::ask::Asked;

@@ -1,4 +1,6 @@
 // From each ladder's lowest place to the day's findings and the book after the day. It knows no records and no cells.
+#![tactic(auto)]
+
 pub mod count;
 mod findings;
 pub mod settle;

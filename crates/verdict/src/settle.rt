@@ -14,7 +14,7 @@ use posting::head::put_head;
 use posting::raise::is_later_year;
 use wire::refusal::{FINDINGS_SHORT, NOT_SOUND};
 
-#[derive(Drop)]
+#[derive(Clone, Copy)]
 pub enum Settled {
     // The number of findings.
     Found(usize),

@@ -1,7 +1,7 @@
 // Which records the program's words ask for.
 use words::number::number_in;
 
-#[derive(Drop)]
+#[derive(Clone, Copy)]
 pub(crate) enum Asked {
     // The record of this number, from 1; 0 for each that was spared.
     For(u32),

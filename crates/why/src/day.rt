@@ -18,7 +18,7 @@ use wire::refusal::{FULL, LENGTH};
 // The longest record.
 const ROW: usize = 24;
 
-#[derive(Drop)]
+#[derive(Clone, Copy)]
 enum Told {
     // How many lines were written.
     All(u32),

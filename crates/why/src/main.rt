@@ -1,5 +1,7 @@
 // Tells why a record of the day log on standard input did not count: `why` of every record that was spared, `why 3` of
 // the third record. It has no book of its own to lose: the day is judged on a fresh one.
+#![tactic(auto)]
+
 mod asked;
 mod day;
 mod line;

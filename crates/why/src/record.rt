@@ -15,7 +15,7 @@ const TRADE: u8 = 1;
 const LINE: usize = 192;
 
 // The next state, without a line or with one; or the refusal's number; or that the line could not be written.
-#[derive(Drop)]
+#[derive(Clone, Copy)]
 pub(crate) enum Step {
     Passed(State),
     Written(State),

@@ -1,5 +1,7 @@
 // Numbers of 16 and 32 bits in little-endian bytes, and the refusals by name. specs/ has the words in which all our
 // contracts speak of bytes.
+#![tactic(auto)]
+
 pub mod read;
 pub mod refusal;
 pub mod write;

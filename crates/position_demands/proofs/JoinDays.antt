@@ -242,7 +242,7 @@ module _ (a b : ℕ) (two : Two a b) (p p' : Positions) (j : Joined a b p p') wh
     row = record {
       first_group = low;
       last_group = high;
-      first_kind = h.row.first_kind;
+      least_kind = h.row.least_kind;
       last_kind = h.row.last_kind;
     };
     last_family = h.last_family;

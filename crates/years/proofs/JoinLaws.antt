@@ -265,7 +265,7 @@ module _ (a b : ℕ) (two : Two a b) (shape : Shape) (from : List ℕ) (hard : (
     row = record {
       first_group = two.first_b;
       last_group = two.last_b;
-      first_kind = i.row.first_kind;
+      least_kind = i.row.least_kind;
       last_kind = i.row.last_kind;
     };
     last_family = i.last_family;

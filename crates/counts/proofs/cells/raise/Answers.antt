@@ -6,7 +6,7 @@ use Rattle.counts.proofs.CellLaws.{plan_fits}
 use Rattle.counts.proofs.cells.raise.Goals as goal
 
 -- no refusal
-none : (c : tie.Else1) → let a = c.args in plan_fault a.kinds a.taken a.p
+none : (c : goal.Else-fault-ne0) → let a = c.args in plan_fault a.kinds a.taken a.p
     a.c.now ≡ 0
 none c = sym c.plan_fault-fault.ensures ∙ c.if-fault-ne0.false
 
@@ -21,4 +21,4 @@ raise_each-requires c = plan_fits _ _ _ _ (none c)
 pub returns : goal.returns
 returns c =
     let e = none c in
-    (sym e, pick_yes _ _ _ _ (eq-eqb _ 0 e) c.raise-each.ensures)
+    (sym e, pick_yes _ _ _ _ (eq-eqb _ 0 e) c.raise_each.ensures)

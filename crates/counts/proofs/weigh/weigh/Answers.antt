@@ -17,15 +17,15 @@ use Rattle.counts.specs.Weigh.{plan_in, reasons_in, record_fault, weigh_fault, w
 use Rattle.counts.proofs.weigh.weigh.Goals as goal
 
 -- what the call is handed
-abbrev start : tie.Else1 → tie.Start
+abbrev start : goal.Else-tables_changed → goal.Start
 start c = c
 
 -- the tables are the day's, so that the record decides
-unchanged-fault : (c : tie.Else1) → let a = (start c).args in changed_fault a.head a.log.now ≡ 0
+unchanged-fault : (c : goal.Else-tables_changed) → let a = (start c).args in changed_fault a.head a.log.now ≡ 0
 unchanged-fault c = sym (pick_no _ _ _ _ (told _ _ _ c.tables_changed.ensures c.if-tables_changed.false) refl)
 
 -- its tables are the day's, and good
-still : (c : tie.Else1) → let a = (start c).args in (a.head ≡ header_of a.log.now) × GoodLog a.head a.log.now
+still : (c : goal.Else-tables_changed) → let a = (start c).args in (a.head ≡ header_of a.log.now) × GoodLog a.head a.log.now
 still c = still_good _ _ (told _ _ _ c.tables_changed.ensures c.if-tables_changed.false)
 
 pub returns-then-tables_changed : goal.returns-then-tables_changed
@@ -41,14 +41,8 @@ returns-then-brokers_wrong c =
     (answer_refused _ _ _ _ (pick_yes _ _ _ _ (told _ _ _ c.brokers_wrong.ensures c.if-brokers_wrong.true) refl)
     (λ z. absurd (omega arith)))
 
-pub TODO-slice-bounds-weigh-in-end : goal.TODO-slice-bounds-weigh-in-end
-TODO-slice-bounds-weigh-in-end c = omega (arith, (still c).1.whole)
-
 pub slice_bounds-weigh_in-count-2 : goal.slice_bounds-weigh_in-count-2
 slice_bounds-weigh_in-count-2 c = omega (arith, (still c).1.whole)
-
-pub TODO-slice-bounds-weigh-in-start-2 : goal.TODO-slice-bounds-weigh-in-start-2
-TODO-slice-bounds-weigh-in-start-2 c = omega (arith, (still c).1.whole)
 
 pub weigh_in-requires : goal.weigh_in-requires
 weigh_in-requires c =
@@ -67,7 +61,7 @@ returns c =
     let a = (start b).args in
     let counts = Counts (plan_in a.log.now a.row.now) (reasons_in a.log.now a.row.now) in
     answer_then _ _ _ _ (unchanged-fault b)
-    (rw c.text_of.ensures at c.weigh-in.ensures
+    (rw c.text_of.ensures at c.weigh_in.ensures
     ∙ ap₂ weighed (lent_tables a.head a.log.now (still b).0) c.record_of.ensures
     ∙ ap (λ (n : ℕ). answered n counts Refused)
     (pick_no _ _ _ _ (told _ _ _ d.brokers_wrong.ensures d.if-brokers_wrong.false) refl))

@@ -1,7 +1,7 @@
 use mathlib.Core.Path.{◌≡◌, sym, ◌∙◌}
 use mathlib.Core.Bool.{true}
 use native.Mathlib.Omega.{arith}
-use Rattle.wire.proofs.ChoiceLaws.{chain, told_yes}
+use Rattle.wire.proofs.ChoiceLaws.{told, chain}
 use Rattle.daylog.specs.declared.record.Record.{Record}
 use Rattle.daylog.specs.Records.{record_good}
 use Rattle.tables.specs.Tables.{Tables, tables_in, has_contract, has_account}
@@ -13,41 +13,41 @@ use Rattle.counts.proofs.WeighLaws.{plan_is, plan_none, reasons_is}
 use Rattle.counts.proofs.weigh.weigh_in.Goals as goal
 
 -- the tables and the record that the call is handed
-abbrev t : tie.Start → Tables
+abbrev t : goal.Start → Tables
 t s = tables_in s.args.text s.args.contracts.now s.args.accounts.now
 
-abbrev r : tie.Start → Record
+abbrev r : goal.Start → Record
 r s = s.args.r
 
 -- the record's own fields are good
-abbrev at_1 : tie.Else1 → tie.Start
+abbrev at_1 : goal.Else-not-record_good → goal.Start
 at_1 c = c
 
-good : (c : tie.Else1) → record_good (t (at_1 c)).text (r (at_1 c)) ≡ true
+good : (c : goal.Else-not-record_good) → record_good (t (at_1 c)).text (r (at_1 c)) ≡ true
 unfolding tables_in
-good c = told_yes _ _ c.record_good.ensures c.if-not-record_good.false
+good c = told _ _ _ c.record_good.ensures c.if-not-record_good.false
 
 -- its contract is there
-abbrev at-2 : tie.After-found → tie.Start
+abbrev at-2 : goal.In-At-2 → goal.Start
 at-2 c = at_1 c
 
-here : (c : tie.After-found)
+here : (c : goal.In-At-2)
     → Here (at-2 c).args.text (at-2 c).args.contracts.now (at-2 c).args.accounts.now (r (at-2 c)).contract
     c.found-1.given.0.0 c.found-1.given.0.1.0
 here c = a_contract _ _ _ _ _ _ (sym c.found-1.given.1 ∙ c.find_contract-found.ensures)
 
 -- its first account is there
-abbrev at-3 : tie.Else2 → tie.Start
+abbrev at-3 : goal.Else-first-eq0 → goal.Start
 at-3 c = at-2 c
 
-first-there : (c : tie.Else2) → has_account (t (at-3 c)) (r (at-3 c)).first ≡ true
+first-there : (c : goal.Else-first-eq0) → has_account (t (at-3 c)) (r (at-3 c)).first ≡ true
 first-there c = an_account _ _ _ _ (at-3 c).requires.1 _ c.find_account-first.ensures.0 c.if-first-eq0.false
 
 -- and, of there, what is known from before
-fields-good : (c : tie.Else2) → record_good (t (at-3 c)).text (r (at-3 c)) ≡ true
+fields-good : (c : goal.Else-first-eq0) → record_good (t (at-3 c)).text (r (at-3 c)) ≡ true
 fields-good c = good c
 
-contract-there : (c : tie.Else2) → has_contract (t (at-3 c)) (r (at-3 c)).contract ≡ true
+contract-there : (c : goal.Else-first-eq0) → has_contract (t (at-3 c)) (r (at-3 c)).contract ≡ true
 contract-there c = (here c).has
 
 pub returns-then-not-record_good : goal.returns-then-not-record_good
@@ -90,7 +90,7 @@ returns-then-r-ne1 c =
     b.if-first-eq0.false in
     let other = c.if-r-ne1.true in
     let group = c.get8.ensures ∙ one in
-    c.weigh-for.ensures
+    c.weigh_for.ensures
     ∙ counts_by _ (r s) _ _ (second_none (t s) (r s) (fields-good b) (contract-there b) (first-there b) other)
     (plan_none (t s) (r s) _ _ _ h.entry h.place group 0 other)
     (reasons_is (t s) (r s) _ _ _ h.entry h.place group)

@@ -8,7 +8,7 @@ use Rattle.wire.proofs.ChoiceLaws.{chain}
 use Rattle.daylog.proofs.header.entries_fault.Goals as goal
 
 -- what each table's check said of its part of the log
-contracts-told : (c : tie.After-contracts-good) →
+contracts-told : (c : goal.After-contracts_good) →
     let a = c.args in
     c.contracts_good.result ≡ contracts_good (text_of a.h) (contracts_part a.h a.log.now)
 contracts-told c =
@@ -16,7 +16,7 @@ contracts-told c =
     c.contracts_good.ensures
     ∙ ap₂ contracts_good c.text_of.ensures (part_of a.log.now 16 (8 * a.h.contracts))
 
-accounts-told : (c : tie.After-accounts-good) →
+accounts-told : (c : goal.After-accounts_good) →
     let a = c.args in
     c.accounts_good.result ≡ accounts_good (accounts_part a.h a.log.now)
 accounts-told c =

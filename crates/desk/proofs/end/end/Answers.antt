@@ -16,12 +16,6 @@ unfolding end_fault
 returns-then-fault-ne0 c = rw c.state-1.given.1
     (refused_first _ _ _ c.lent_fault-fault.ensures c.if-fault-ne0.true)
 
-pub TODO-slice-bounds-places-end : goal.TODO-slice-bounds-places-end
-unfolding most_kinds
-TODO-slice-bounds-places-end c =
-    places_fit c.state-1.given.0.0.head.rulebook
-    _ _ c.kinds_of.ensures c.ladders_in-n.ensures
-
 pub end_with-requires : goal.end_with-requires
 unfolding most_kinds
 end_with-requires c =

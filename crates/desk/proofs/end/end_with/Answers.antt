@@ -10,15 +10,15 @@ use mathlib.Core.Path.{◌≡◌, sym, ap, ◌∙◌}
 use Rattle.desk.proofs.end.end_with.Goals as goal
 
 -- what the call is handed, where the cells have no fault
-abbrev start : tie.Else1 → tie.Start
+abbrev start : goal.Else-fault-ne0 → goal.Start
 start c = c
 
-none : (c : tie.Else1) → let a = (start c).args in
+none : (c : goal.Else-fault-ne0) → let a = (start c).args in
     cells_fault (kinds_for a.day.head) a.day.taken a.counts.now ≡ 0
 none c = sym c.judge_cells-fault.ensures.0 ∙ c.if-fault-ne0.false
 
 -- the log is of bytes
-small : (c : tie.Else1) (j : ℕ) → get_or (start c).args.log.now j 0 < 256
+small : (c : goal.Else-fault-ne0) (j : ℕ) → get_or (start c).args.log.now j 0 < 256
 small c j =
     let known = c in
     omega (arith, known.shared_slice_known-1.given j)
@@ -47,7 +47,7 @@ returns-in-Found c =
     rw c.found-1.given.1 at
     (ended_by a.day a.log.now a.counts.now h.0 h.1 (small e) (none e)
     a.book.now a.out.now h.4
-    (rw judged at c.settle-day.ensures))
+    (rw judged at c.settle_day.ensures))
 
 pub returns-in-Refused : goal.returns-in-Refused
 returns-in-Refused c =
@@ -58,4 +58,4 @@ returns-in-Refused c =
     rw c.number-1.given.1 at
     (ended_by a.day a.log.now a.counts.now h.0 h.1 (small e) (none e)
     a.book.now a.out.now h.4
-    (rw judged at c.settle-day.ensures))
+    (rw judged at c.settle_day.ensures))

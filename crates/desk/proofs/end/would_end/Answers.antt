@@ -17,12 +17,6 @@ unfolding end_fault day_found
 returns-then-fault-ne0 c = rw c.state-1.given.1
     (answer_first _ NotFound _ _ _ c.lent_fault-fault.ensures c.if-fault-ne0.true)
 
-pub TODO-slice-bounds-places-end : goal.TODO-slice-bounds-places-end
-unfolding most_kinds
-TODO-slice-bounds-places-end c =
-    places_fit c.state-1.given.0.0.head.rulebook _ _
-    c.kinds_of.ensures c.ladders_in-n.ensures
-
 pub find_with-requires : goal.find_with-requires
 unfolding most_kinds
 find_with-requires c =
@@ -51,4 +45,4 @@ returns c =
     rw c.state-1.given.1
     (answer_then _ NotFound _ _
     (sym c.lent_fault-fault.ensures
-    ∙ c.if-fault-ne0.false) c.find-with.ensures)
+    ∙ c.if-fault-ne0.false) c.find_with.ensures)

@@ -7,11 +7,11 @@ use Rattle.desk.specs.Take.{sizes_fault}
 use Rattle.desk.proofs.take.sizes_fault.Goals as goal
 
 -- what the call is handed
-abbrev args : tie.After-cells-in → tie.Start
+abbrev args : goal.After-cells_in → goal.Start
 args c = c
 
 -- the cells, by the day's header
-cells_is : (c : tie.After-cells-in) → c.cells_in.result ≡ cells (kinds_for (args c).args.day.head)
+cells_is : (c : goal.After-cells_in) → c.cells_in.result ≡ cells (kinds_for (args c).args.day.head)
 cells_is c = c.cells_in.ensures ∙ ap (λ k. cells k) c.kinds_of.ensures
 
 pub returns-then-row-record_length : goal.returns-then-row-record_length

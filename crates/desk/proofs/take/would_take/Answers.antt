@@ -12,22 +12,22 @@ use Rattle.desk.specs.Take.{held_fault, day_fault, take_fault, would_take, day_w
 use Rattle.desk.proofs.take.would_take.Goals as goal
 
 -- where the state is known to be open; the refusal before the counts, and what the record counts for
-abbrev state : tie.After-weigh-day → tie.After-state
+abbrev state : goal.After-weigh_day-weighed → goal.In-Open-2
 state c = c
 
-abbrev fault : tie.After-weigh-day → ℕ
+abbrev fault : goal.After-weigh_day-weighed → ℕ
 fault c =
     let a = (state c).before.before.before.before.before.args in
     held_fault (state c).state.given.0.0 a.log.now a.row.now (length a.counts.now)
 
-abbrev plan : tie.After-weigh-day → Plan
+abbrev plan : goal.After-weigh_day-weighed → Plan
 plan c = let a = (state c).before.before.before.before.before.args in plan_in a.log.now a.row.now
 
-abbrev why : tie.After-weigh-day → Reasons
+abbrev why : goal.After-weigh_day-weighed → Reasons
 why c = let a = (state c).before.before.before.before.before.args in reasons_in a.log.now a.row.now
 
 -- no refusal before the counts, and plan and clauses are the record's
-counts : (c : tie.After-weighed) → let w = c in (fault w ≡ 0) × (c.weighed-1.given.0.0 ≡ plan w)
+counts : (c : goal.In-Counts-2) → let w = c in (fault w ≡ 0) × (c.weighed-1.given.0.0 ≡ plan w)
     × (c.weighed-1.given.0.1.0 ≡ why w)
 unfolding day_weighed
 counts c =

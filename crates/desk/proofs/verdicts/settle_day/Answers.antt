@@ -35,4 +35,4 @@ pub returns : goal.returns
 returns c =
     let d = c in
     let a = d.args in
-    on-tables a.h a.log.now a.places.now a.book.now a.out.now d.settle-with.ensures
+    on-tables a.h a.log.now a.places.now a.book.now a.out.now d.settle_with.ensures

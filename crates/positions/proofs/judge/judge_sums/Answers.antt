@@ -42,4 +42,4 @@ returns c =
     (sym c.fits_fault-second.ensures
     ∙ c.if-second-ne0.false) (read.1 left).0
     (read.1 left).1
-    c.settle-log.ensures
+    c.settle_log.ensures

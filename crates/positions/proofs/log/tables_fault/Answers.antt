@@ -8,14 +8,14 @@ use Rattle.wire.proofs.ChoiceLaws.{chain}
 use Rattle.positions.proofs.log.tables_fault.Goals as goal
 
 -- what each table's check said of its part of the log
-limits-told : (c : tie.After-limits-good) →
+limits-told : (c : goal.After-limits_good) →
     let a = c.args in
-    c.limits-good.result ≡ limits_good (limits_part a.h a.log.now)
+    c.limits_good.result ≡ limits_good (limits_part a.h a.log.now)
 limits-told c =
     let a = c.args in
-    c.limits-good.ensures ∙ ap limits_good (part_of a.log.now 16 (16 * a.h.contracts))
+    c.limits_good.ensures ∙ ap limits_good (part_of a.log.now 16 (16 * a.h.contracts))
 
-accounts-told : (c : tie.After-accounts-good) →
+accounts-told : (c : goal.After-accounts_good) →
     let a = c.args in
     c.accounts_good.result ≡ accounts_good (accounts_part a.h a.log.now)
 accounts-told c =

@@ -12,7 +12,7 @@ use borrow.Author.Rules.{rules}
 use Rattle.positions.proofs.sums.add_records.Goals as goal
 
 -- what was looked up for the record of this turn
-looked : (c : tie.After-find-account invariant-loop decreases-loop) →
+looked : (c : goal.After-find_account-entry invariant-loop decreases-loop) →
     let a = c.args in
     let l = c.loop-k in
     Looked a.contracts.now a.accounts.now a.records.now
@@ -54,7 +54,7 @@ returns-then-not-fields_good-place c =
     let l = c.loop-k in
     let bad = turn_bad a.contracts.now a.accounts.now a.records.now
     c.requires.1
-    (looked c) c.fields-good.ensures c.if-not-fields_good-place.true in
+    (looked c) c.fields_good.ensures c.if-not-fields_good-place.true in
     let none = all_bad a.contracts.now a.accounts.now a.records.now
     c.requires.1 l.k
     (omega arith) bad in
@@ -67,7 +67,7 @@ overflow_cast-place c =
       arith,
       turn_place a.contracts.now a.accounts.now a.records.now
           c.requires.1
-          (looked c) c.fields-good.ensures c.if-not-fields_good-place.false,
+          (looked c) c.fields_good.ensures c.if-not-fields_good-place.false,
       c.requires.0,
     )
 
@@ -118,7 +118,7 @@ loop-k-preserved c =
     let good = c.requires.1 in
     let own = c.position_at-r.ensures in
     let look = looked c in
-    let fields = c.fields-good.ensures in
+    let fields = c.fields_good.ensures in
     let left = c.if-not-fields_good-place.false in
     let cell = c.cell_of_is.ensures
     ∙ turn_cell a.contracts.now a.accounts.now a.records.now good

@@ -26,4 +26,4 @@ returns c =
     let none = sym passed.before.fresh-fault.ensures ∙ passed.if1.false in
     let long = (made _ _ _ none).long in
     done _ none refl
-    (fresh_written _ _ _ _ _ long headed.put_head.ensures c.zero-totals.ensures)
+    (fresh_written _ _ _ _ _ long headed.put_head.ensures c.zero_totals.ensures)

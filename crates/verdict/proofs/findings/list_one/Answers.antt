@@ -28,7 +28,7 @@ returns-then-place-ids c =
       more_yes _ _ (place_hit _ _ _ _ _ _ is hit),
       finding_here _ _ _ _ _ _ _ _ _ _ is hit read.before.is_later_year.ensures read.get16.ensures
           given.before.before.before.next_total.ensures given.before.before.sanction-for.ensures
-          given.get16-then-place-ids.ensures c.put-finding.ensures,
+          given.get16-then-place-ids.ensures c.put_finding.ensures,
     )
 
 pub returns : goal.returns

@@ -56,5 +56,5 @@ returns c =
     ∙ c.book_size.ensures)
     c.count_found-found.ensures
     c.if-out-found.false
-    c.write-day.ensures.0
-    c.write-day.ensures.1
+    c.write_day.ensures.0
+    c.write_day.ensures.1

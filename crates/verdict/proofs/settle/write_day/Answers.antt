@@ -8,7 +8,7 @@ returns c =
       book_written a.shape a.rulebook a.places.now a.ids.now a.members.now a.date
           a.book.now _ _ _
           c.is_later_year-later.ensures
-          s.requires.0 c.raise-all.ensures
+          s.requires.0 c.raise_all.ensures
           c.put_head.ensures,
       c.list_all.ensures,
     )

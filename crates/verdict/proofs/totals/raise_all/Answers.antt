@@ -55,11 +55,6 @@ slice_bounds-raise_group-count c =
     let f = part_fits _ _ _ c.kinds_in-own.ensures c.loop-g-test.true in
     omega arith
 
-pub TODO-slice-bounds-raise-group-end : goal.TODO-slice-bounds-raise-group-end
-TODO-slice-bounds-raise-group-end c =
-    let f = part_fits _ _ _ c.kinds_in-own.ensures c.loop-g-test.true in
-    search rules
-
 pub loop-g-preserved : goal.loop-g-preserved
 loop-g-preserved c =
     let tested = c in

@@ -2,6 +2,7 @@ use mathlib.Core.List.{[]}
 use mathlib.Core.Path.{sym, ◌∙◌}
 use native.Mathlib.Nat.{add-sub_cancel_left}
 use native.Mathlib.Omega.{arith}
+use borrow.Author.Rules.{rules}
 use Rattle.tables.specs.Accounts.{account_at}
 use Rattle.tables.proofs.Search.{halved_fits, found_here, found_not, found_both}
 use Rattle.tables.proofs.accounts.find_account.Goals as goal
@@ -34,3 +35,8 @@ returns-else-word-number c =
     let q = found_both c.args.part.now c.args.number []
     (found_not _ _ (λ l e. c.if-word-number.false (c.word.ensures ∙ rw c.halving-at.ensures e))) in
     record { by_halving = q.0; in_order = q.1 }
+
+pub slice_bounds-result-end-then-word-number : goal.slice_bounds-result-end-then-word-number
+slice_bounds-result-end-then-word-number c =
+    let fits = halved_fits _ _ _ c.halving-at.ensures c.if-part-lt8.false in
+    search rules

@@ -15,10 +15,9 @@ returns-then-not-head_good c =
 
 pub returns : goal.returns
 returns c =
-    let tested = c in
-    let a = tested.before.before.before.before.before.args in
-    right_head _ _ _ (tested.before.before.if1.false ∙ tested.before.before.before.book_size.ensures)
-    (told _ _ _ tested.before.head-good.ensures tested.if-not-head_good.false)
+    let a = c.args in
+    right_head _ _ _ (c.if-b-book_size.false ∙ c.book_size.ensures)
+    (told _ _ _ c.head_good.ensures c.if-not-head_good.false)
     (c.totals_good.ensures
     ∙ ap₂ (totals_good a.shape.kinds a.b.now) c.get8.ensures
     (c.day_number.ensures ∙ ap day_number c.get32.ensures))

@@ -23,12 +23,12 @@ returns-then-not-cells_good c =
 
 pub judge_day-requires : goal.judge_day-requires
 judge_day-requires c =
-    let s = c in (
-      lent_short s.args.day.head s.args.log.now s.requires.0.most_contracts,
+    (
+      lent_short c.args.day.head c.args.log.now c.requires.0.most_contracts,
       rw
-          c.kinds_of-kinds.ensures s.requires.1,
+          c.kinds_of-kinds.ensures c.requires.1,
       rw
-          c.kinds_of-kinds.ensures s.requires.2,
+          c.kinds_of-kinds.ensures c.requires.2,
     )
 
 pub returns : goal.returns

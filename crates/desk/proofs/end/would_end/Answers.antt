@@ -14,13 +14,13 @@ returns-in_default c = rw c.enum_told-1.given.1 (answer_refused _ NotFound _ 10 
 
 pub returns-then-fault-ne0 : goal.returns-then-fault-ne0
 unfolding end_fault day_found
-returns-then-fault-ne0 c = rw c.state-1.given.1
+returns-then-fault-ne0 c = rw c.state.given.1
     (answer_first _ NotFound _ _ _ c.lent_fault-fault.ensures c.if-fault-ne0.true)
 
 pub find_with-requires : goal.find_with-requires
 unfolding most_kinds
 find_with-requires c =
-    let s = c.state-1.given in
+    let s = c.state.given in
     let a = c.args in
     let h = handed s.0.0 a.log.now a.row.now a.book.now _
     (sym c.lent_fault-fault.ensures
@@ -42,7 +42,7 @@ find_with-requires c =
 pub returns : goal.returns
 unfolding end_fault day_found
 returns c =
-    rw c.state-1.given.1
+    rw c.state.given.1
     (answer_then _ NotFound _ _
     (sym c.lent_fault-fault.ensures
     ∙ c.if-fault-ne0.false) c.find_with.ensures)

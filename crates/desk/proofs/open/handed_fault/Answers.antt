@@ -41,15 +41,13 @@ returns-then-second-ne0 c =
 pub returns-then-len-cells_in : goal.returns-then-len-cells_in
 unfolding handed_fault few_fault
 returns-then-len-cells_in c =
-    let b = c in
-    or_else_by _ _ _ (log_good b)
-    (or_else_by _ _ _ (sym (book_is b) ∙ c.if-second-ne0.false)
+    or_else_by _ _ _ (log_good c)
+    (or_else_by _ _ _ (sym (book_is c) ∙ c.if-second-ne0.false)
     (pick_yes _ _ _ _ (lt-ltb _ _ (rw (cells_is c) at c.if-len-cells_in.true)) refl))
 
 pub returns : goal.returns
 unfolding handed_fault few_fault
 returns c =
-    let b = c in
-    or_else_by _ _ _ (log_good b)
-    (or_else_by _ _ _ (sym (book_is b) ∙ c.if-second-ne0.false)
+    or_else_by _ _ _ (log_good c)
+    (or_else_by _ _ _ (sym (book_is c) ∙ c.if-second-ne0.false)
     (pick_no _ _ _ _ (le-ltb _ _ (rw (cells_is c) at c.if-len-cells_in.false)) refl))

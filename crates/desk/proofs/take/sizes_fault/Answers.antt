@@ -22,13 +22,11 @@ returns-then-row-record_length c =
 pub returns-then-len-cells_in : goal.returns-then-len-cells_in
 unfolding sizes_fault
 returns-then-len-cells_in c =
-    let b = c in
-    pick_no _ _ _ _ (flip_no _ (eq-eqb _ _ (b.if-row-record_length.false ∙ b.record_length.ensures)))
+    pick_no _ _ _ _ (flip_no _ (eq-eqb _ _ (c.if-row-record_length.false ∙ c.record_length.ensures)))
     (pick_yes _ _ _ _ (lt-ltb _ _ (rw (cells_is c) at c.if-len-cells_in.true)) refl)
 
 pub returns : goal.returns
 unfolding sizes_fault
 returns c =
-    let b = c in
-    pick_no _ _ _ _ (flip_no _ (eq-eqb _ _ (b.if-row-record_length.false ∙ b.record_length.ensures)))
+    pick_no _ _ _ _ (flip_no _ (eq-eqb _ _ (c.if-row-record_length.false ∙ c.record_length.ensures)))
     (pick_no _ _ _ _ (le-ltb _ _ (rw (cells_is c) at c.if-len-cells_in.false)) refl)

@@ -39,16 +39,12 @@ returns-in_default c = rw c.enum_told-1.given.1 (refused _ 10 refl (λ z. omega 
 pub returns-in-Refused : goal.returns-in-Refused
 unfolding take_fault day_fault day_weighed
 returns-in-Refused c =
-    let w = c in
-    let j = weighed_no (fault w) (plan w) (why w) _ (sym c.fault-1.given.1 ∙ w.weigh_day.ensures) in
-    rw (state w).state.given.1 (refused_first _ _ _ j.0 j.1)
+    let j = weighed_no (fault c) (plan c) (why c) _ (sym c.fault-1.given.1 ∙ c.weigh_day.ensures) in
+    rw (state c).state.given.1 (refused_first _ _ _ j.0 j.1)
 
 pub returns-in-Counts : goal.returns-in-Counts
 unfolding take_fault day_fault day_weighed
 returns-in-Counts c =
-    let m = c in
-    let p = m in
-    let w = p in
-    let j = weighed_yes (fault w) (plan w) (why w) _ _ (sym p.p.given.1 ∙ w.weigh-day.ensures) in
-    rw (state w).state.given.1
-    (then_by _ _ j.0 (rw (← held_head (day w) _ _ _ j.0, ← j.1, ← j.2) m.count_record.ensures))
+    let j = weighed_yes (fault c) (plan c) (why c) _ _ (sym c.p-1.given.1 ∙ c.weigh_day.ensures) in
+    rw (state c).state.given.1
+    (then_by _ _ j.0 (rw (← held_head (day c) _ _ _ j.0, ← j.1, ← j.2) c.count_record.ensures))

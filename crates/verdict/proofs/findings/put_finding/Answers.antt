@@ -27,10 +27,9 @@ shape_of-out c = let first = simp length-set at c.put16.auto.0 in
 
 pub returns : goal.returns
 returns c =
-    let start = c in
-    let a = start.args in
+    let a = c.args in
     finding_written a.kinds a.out.now _ _ a.at a.ladder _ _ a.sanction a.total a.id
-    start.requires.0
+    c.requires.0
     c.group_at-group.ensures
     c.kind_at-kind.ensures
     c.put16.ensures c.put16-2.ensures

@@ -1,22 +1,5 @@
-use native.Mathlib.Omega.{arith}
-use lib.ListN.{length-set}
 use Rattle.posting.proofs.WriteLaws.{head_written}
-use borrow.Author.Rules.{rules}
 use Rattle.posting.proofs.head.store_head.Goals as goal
-
-pub bounds-b-1 : goal.bounds-b-1
-bounds-b-1 c = simp length-set (omega arith)
-
-pub bounds-b-2 : goal.bounds-b-2
-bounds-b-2 c = simp length-set (omega arith)
-
-pub bounds-b-3 : goal.bounds-b-3
-bounds-b-3 c = simp length-set (omega arith)
-
-pub shape_of-b : goal.shape_of-b
-shape_of-b c =
-    let same = simp length-set at c.put16.auto.0 in
-    search rules
 
 pub returns : goal.returns
 returns c =

@@ -18,7 +18,7 @@ loop-j-preserved c =
       search rules,
       search rules,
       raise_turn a.part.now a.later a.places.now a.from a.contracts l.part _ l.j _ _ _
-          l.invariant.2 c.IsPlace-in.ensures c.get16-total.ensures
+          l.invariant.2 c.place_in.ensures c.get16-total.ensures
           c.next_total.ensures c.put16.ensures (omega arith),
     )
 

@@ -12,19 +12,6 @@ overflow_cast-group c = omega (
       c.requires.1,
 )
 
-pub bounds-out-at-2 : goal.bounds-out-at-2
-bounds-out-at-2 c = simp length-set (omega arith)
-
-pub bounds-out-at-3 : goal.bounds-out-at-3
-bounds-out-at-3 c = simp length-set (omega arith)
-
-pub bounds-out-at-4 : goal.bounds-out-at-4
-bounds-out-at-4 c = simp length-set (omega arith)
-
-pub shape_of-out : goal.shape_of-out
-shape_of-out c = let first = simp length-set at c.put16.auto.0 in
-    search rules
-
 pub returns : goal.returns
 returns c =
     let a = c.args in

@@ -220,7 +220,7 @@ module _ (a b : ℕ) (two : Two a b) (shape : Shape) (from : List ℕ) (hard : (
             (subst (λ (x : Shape). group_at x.kinds l ≡ a) (sym own) is-a) _ _;
       }
 
-  days_joined : {book book' : List ℕ} {days days' : List WrittenDay} → Written shape from days book
+  days_joined : {days days' : List WrittenDay} {book book' : List ℕ} → Written shape from days book
       → Written shape from days' book' → SameDays a b days days' → DaysJoined a b shape from days days'
   days_joined w w' none = none_joined
   days_joined w w' (more j s) =

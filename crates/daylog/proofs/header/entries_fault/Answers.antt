@@ -31,14 +31,14 @@ pub returns-then-not-contracts_good : goal.returns-then-not-contracts_good
 unfolding entries_fault
 returns-then-not-contracts_good c =
     let g = contracts-told c.args.h c.args.log.now c.text_of.result c.contracts_good.result c.text_of.ensures
-        c.contracts_good.ensures in
+    c.contracts_good.ensures in
     search chain depth 12
 
 pub returns-then-not-accounts_good : goal.returns-then-not-accounts_good
 unfolding entries_fault
 returns-then-not-accounts_good c =
     let g = contracts-told c.args.h c.args.log.now c.text_of.result c.contracts_good.result c.text_of.ensures
-        c.contracts_good.ensures in
+    c.contracts_good.ensures in
     let h = accounts-told c.args.h c.args.log.now c.accounts_good.result c.accounts_good.ensures in
     search chain depth 12
 
@@ -46,6 +46,6 @@ pub returns : goal.returns
 unfolding entries_fault
 returns c =
     let g = contracts-told c.args.h c.args.log.now c.text_of.result c.contracts_good.result c.text_of.ensures
-        c.contracts_good.ensures in
+    c.contracts_good.ensures in
     let h = accounts-told c.args.h c.args.log.now c.accounts_good.result c.accounts_good.ensures in
     search chain depth 12

@@ -3,6 +3,8 @@ use mathlib.Core.Bool.{Bool, false}
 use mathlib.Core.List.{List}
 use Prim.Native.Nat.{ℕ, ◌+◌, ◌*◌}
 use native.Mathlib.Omega.{arith}
+use lib.ListN.{length}
+use borrow.Author.Rules.{rules}
 use Rattle.wire.proofs.ChoiceLaws.{pick_yes, pick_no, told}
 use Rattle.wire.proofs.PartLaws.{part_rest}
 use Rattle.wire.specs.Outcomes.{answered}
@@ -41,6 +43,20 @@ returns-then-brokers_wrong c =
     answer_then _ _ _ _ (unchanged-fault _ _ _ c.tables_changed.ensures c.if-tables_changed.false)
     (answer_refused _ _ _ _ (pick_yes _ _ _ _ (told _ _ _ c.brokers_wrong.ensures c.if-brokers_wrong.true) refl)
     (λ z. absurd (omega arith)))
+
+pub slice_bounds-weigh_in-end : goal.slice_bounds-weigh_in-end
+slice_bounds-weigh_in-end c =
+    let a = c.args in
+    let whole : length a.log.now ≡ 16 + 8 * a.head.contracts + 8 * a.head.accounts =
+    (still _ _ _ c.tables_changed.ensures c.if-tables_changed.false).1.whole in
+    search rules
+
+pub slice_bounds-weigh_in-start-2 : goal.slice_bounds-weigh_in-start-2
+slice_bounds-weigh_in-start-2 c =
+    let a = c.args in
+    let whole : length a.log.now ≡ 16 + 8 * a.head.contracts + 8 * a.head.accounts =
+    (still _ _ _ c.tables_changed.ensures c.if-tables_changed.false).1.whole in
+    search rules
 
 pub slice_bounds-weigh_in-count-2 : goal.slice_bounds-weigh_in-count-2
 slice_bounds-weigh_in-count-2 c = omega (arith, (still _ _ _ c.tables_changed.ensures c.if-tables_changed.false).1.whole)

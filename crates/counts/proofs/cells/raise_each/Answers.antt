@@ -29,4 +29,4 @@ returns c =
     let f = e in
     let a = f.args in
     d.raise_for-3.ensures ∙ ap (raised_for a.kinds a.p 3)
-    (e.raise-for2.ensures ∙ ap (raised_for a.kinds a.p 2) f.raise-for.ensures)
+    (e.raise_for-2.ensures ∙ ap (raised_for a.kinds a.p 2) f.raise_for.ensures)

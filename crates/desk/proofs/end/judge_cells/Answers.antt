@@ -15,7 +15,7 @@ unfolding cells_fault
 returns-then-not-cells_good c =
     let a = c.args in (
       pick_yes _ _ _ _
-          (flip_yes _ (told _ _ _ (c.cells_good_is.ensures
+          (flip_yes _ (told _ _ _ (c.cells_good.ensures
           ∙ ap (λ k. cells_good k a.day.taken a.counts.now) c.kinds_of-kinds.ensures)
           c.if-not-cells_good.true)) refl,
       λ z. absurd (omega arith),
@@ -37,7 +37,7 @@ returns c =
     let a = c.args in (
       pick_no _ _ _ _
           (flip_no _ (told _ _ _
-          (c.cells_good_is.ensures
+          (c.cells_good.ensures
           ∙ ap (λ k. cells_good k a.day.taken a.counts.now)
           c.kinds_of-kinds.ensures)
           c.if-not-cells_good.false)) refl,

@@ -59,7 +59,8 @@ slice_bounds-weigh_in-start-2 c =
     search rules
 
 pub slice_bounds-weigh_in-count-2 : goal.slice_bounds-weigh_in-count-2
-slice_bounds-weigh_in-count-2 c = omega (arith, (still _ _ _ c.tables_changed.ensures c.if-tables_changed.false).1.whole)
+slice_bounds-weigh_in-count-2 c =
+    omega (arith, (still _ _ _ c.tables_changed.ensures c.if-tables_changed.false).1.whole)
 
 pub weigh_in-requires : goal.weigh_in-requires
 weigh_in-requires c =
@@ -76,6 +77,8 @@ returns c =
     let counts = Counts (plan_in a.log.now a.row.now) (reasons_in a.log.now a.row.now) in
     answer_then _ _ _ _ (unchanged-fault _ _ _ c.tables_changed.ensures c.if-tables_changed.false)
     (rw c.text_of.ensures at c.weigh_in.ensures
-    ∙ ap₂ weighed (lent_tables a.head a.log.now (still _ _ _ c.tables_changed.ensures c.if-tables_changed.false).0) c.record_of.ensures
+    ∙ ap₂ weighed
+    (lent_tables a.head a.log.now (still _ _ _ c.tables_changed.ensures c.if-tables_changed.false).0)
+    c.record_of.ensures
     ∙ ap (λ (n : ℕ). answered n counts Refused)
     (pick_no _ _ _ _ (told _ _ _ c.brokers_wrong.ensures c.if-brokers_wrong.false) refl))

@@ -17,7 +17,7 @@ loop-g-preserved c =
     let a = c.args in
     let l = c.loop-g in (
       search rules,
-      c.put8.auto.0 ∙ l.invariant.1,
+      c.put8.auto.s ∙ l.invariant.1,
       byte_turn (byteFor a.accounts.now) a.members.now l.members _ l.g _ l.invariant.2
           (c.flag.ensures ∙ ap (λ b. pick b 1 0)
           c.has_member-member.ensures) c.put8.ensures

@@ -4,6 +4,7 @@ use Rattle.desk.proofs.EndLaws.{handed, book_long, places_fit}
 use Rattle.desk.specs.End.{end_fault}
 use Rattle.wire.proofs.AnswerLaws.{refused, refused_first, then_by}
 use native.Mathlib.Omega.{arith}
+use borrow.Author.Rules.{rules}
 use mathlib.Core.Path.{refl, sym, ap, ◌∙◌}
 use Rattle.desk.proofs.end.end.Goals as goal
 
@@ -15,6 +16,12 @@ pub returns-then-fault-ne0 : goal.returns-then-fault-ne0
 unfolding end_fault
 returns-then-fault-ne0 c = rw c.in-Open.is
     (refused_first _ _ _ c.lent_fault-fault.ensures c.if-fault-ne0.true)
+
+pub slice_bounds-places-end : goal.slice_bounds-places-end
+unfolding most_kinds
+slice_bounds-places-end c =
+    let fit = places_fit c.in-Open.day.head.rulebook _ _ c.kinds_of.ensures c.ladders_in-n.ensures in
+    search rules
 
 pub end_with-requires : goal.end_with-requires
 unfolding most_kinds

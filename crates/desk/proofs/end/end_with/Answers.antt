@@ -39,7 +39,7 @@ returns-in-Found c =
     let none = sym c.judge_cells-fault.ensures.value ∙ c.if-fault-ne0.false in
     let judged = c.judge_cells-fault.ensures.places_after c.if-fault-ne0.false in
     rw c.in-Found.is at
-    (ended_by_lem a.day a.log.now a.counts.now h.0 h.1 c.type_inv.log none
+    (ended_by_lem a.day a.log.now a.counts.now h.0 h.1 (λ j. omega (arith, c.type_inv.log j)) none
     a.book.now a.out.now h.4
     (rw judged at c.settle_day.ensures))
 
@@ -50,6 +50,6 @@ returns-in-Refused c =
     let none = sym c.judge_cells-fault.ensures.value ∙ c.if-fault-ne0.false in
     let judged = c.judge_cells-fault.ensures.places_after c.if-fault-ne0.false in
     rw c.in-Refused.is at
-    (ended_by_lem a.day a.log.now a.counts.now h.0 h.1 c.type_inv.log none
+    (ended_by_lem a.day a.log.now a.counts.now h.0 h.1 (λ j. omega (arith, c.type_inv.log j)) none
     a.book.now a.out.now h.4
     (rw judged at c.settle_day.ensures))

@@ -28,7 +28,7 @@ returns-then-room-found c =
     let h = c.requires in
     let none = sym c.judge_cells-fault.ensures.value ∙ c.if-fault-ne0.false in
     let judged = c.judge_cells-fault.ensures.places_after c.if-fault-ne0.false in
-    found_short a.day a.log.now a.counts.now h.0 h.1 c.type_inv.log none a.room _
+    found_short a.day a.log.now a.counts.now h.0 h.1 (λ j. omega (arith, c.type_inv.log j)) none a.room _
     (rw (c.kinds_of.ensures, judged) at c.count_found-found.ensures)
     c.if-room-found.true
 
@@ -38,6 +38,6 @@ returns c =
     let h = c.requires in
     let none = sym c.judge_cells-fault.ensures.value ∙ c.if-fault-ne0.false in
     let judged = c.judge_cells-fault.ensures.places_after c.if-fault-ne0.false in
-    found_done a.day a.log.now a.counts.now h.0 h.1 c.type_inv.log none a.room _
+    found_done a.day a.log.now a.counts.now h.0 h.1 (λ j. omega (arith, c.type_inv.log j)) none a.room _
     (rw (c.kinds_of.ensures, judged) at c.count_found-found.ensures)
     c.if-room-found.false

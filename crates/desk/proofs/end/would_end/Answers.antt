@@ -5,6 +5,7 @@ use Rattle.desk.specs.End.{end_fault, day_found}
 use Rattle.desk.specs.declared.end.Ending.TheVariants.{Refused as NotFound}
 use Rattle.wire.proofs.AnswerLaws.{answer_refused, answer_first, answer_then}
 use native.Mathlib.Omega.{arith}
+use borrow.Author.Rules.{rules}
 use mathlib.Core.Path.{refl, sym, ap, ◌∙◌}
 use Rattle.desk.proofs.end.would_end.Goals as goal
 
@@ -16,6 +17,12 @@ pub returns-then-fault-ne0 : goal.returns-then-fault-ne0
 unfolding end_fault day_found
 returns-then-fault-ne0 c = rw c.in-Open.is
     (answer_first _ NotFound _ _ _ c.lent_fault-fault.ensures c.if-fault-ne0.true)
+
+pub slice_bounds-places-end : goal.slice_bounds-places-end
+unfolding most_kinds
+slice_bounds-places-end c =
+    let fit = places_fit c.in-Open.day.head.rulebook _ _ c.kinds_of.ensures c.ladders_in-n.ensures in
+    search rules
 
 pub find_with-requires : goal.find_with-requires
 unfolding most_kinds

@@ -31,13 +31,13 @@ pub returns-then-second-ne0 : goal.returns-then-second-ne0
 unfolding handed_fault
 returns-then-second-ne0 c =
     or_else_by _ _ _ (sym c.log_fault-fault.ensures ∙ c.if-fault-ne0.false)
-    (or_first_by _ _ _ (book_is _ _ _ _ c.header_of-head.ensures c.book_fault-second.ensures) c.if-second-ne0.true)
+    (or_first_by _ _ _ (book_is c.args.log.now c.args.book.now _ _ c.header_of-head.ensures c.book_fault-second.ensures) c.if-second-ne0.true)
 
 pub returns-then-len-cells_in : goal.returns-then-len-cells_in
 unfolding handed_fault few_fault
 returns-then-len-cells_in c =
-    let book = book_is _ _ _ _ c.header_of-head.ensures c.book_fault-second.ensures in
-    let all = cells_is _ _ _ _ c.header_of-head.ensures c.kinds_of.ensures c.cells_in.ensures in
+    let book = book_is c.args.log.now c.args.book.now _ _ c.header_of-head.ensures c.book_fault-second.ensures in
+    let all = cells_is c.args.log.now _ _ _ c.header_of-head.ensures c.kinds_of.ensures c.cells_in.ensures in
     or_else_by _ _ _ (sym c.log_fault-fault.ensures ∙ c.if-fault-ne0.false)
     (or_else_by _ _ _ (sym book ∙ c.if-second-ne0.false)
     (pick_yes _ _ _ _ (lt-ltb _ _ (rw all at c.if-len-cells_in.true)) refl))
@@ -45,8 +45,8 @@ returns-then-len-cells_in c =
 pub returns : goal.returns
 unfolding handed_fault few_fault
 returns c =
-    let book = book_is _ _ _ _ c.header_of-head.ensures c.book_fault-second.ensures in
-    let all = cells_is _ _ _ _ c.header_of-head.ensures c.kinds_of.ensures c.cells_in.ensures in
+    let book = book_is c.args.log.now c.args.book.now _ _ c.header_of-head.ensures c.book_fault-second.ensures in
+    let all = cells_is c.args.log.now _ _ _ c.header_of-head.ensures c.kinds_of.ensures c.cells_in.ensures in
     or_else_by _ _ _ (sym c.log_fault-fault.ensures ∙ c.if-fault-ne0.false)
     (or_else_by _ _ _ (sym book ∙ c.if-second-ne0.false)
     (pick_no _ _ _ _ (le-ltb _ _ (rw all at c.if-len-cells_in.false)) refl))

@@ -1,20 +1,8 @@
-use mathlib.Core.Path.{◌≡◌, sym, ap, ◌∙◌}
-use mathlib.Core.List.{List}
-use Prim.Native.Nat.{ℕ, ◌<◌}
+use mathlib.Core.Path.{sym, ap, ◌∙◌}
 use native.Mathlib.Omega.{arith}
-use lib.ListN.{length, get_or}
 use Rattle.wire.proofs.AnswerLaws.{refused_first}
-use Rattle.daylog.specs.Header.{header_of, tables_of}
-use Rattle.daylog.specs.GoodLog.{GoodLog}
-use Rattle.places.specs.Places.{book_size}
-use Rattle.verdict.specs.declared.settle.Settled.{Settled}
-use Rattle.verdict.specs.Verdict.{verdict_in}
-use Rattle.verdict.specs.Settle.{SettleGives}
-use Rattle.desk.specs.declared.state.Day.{Day}
-use Rattle.desk.specs.Open.{kinds_for}
-use Rattle.desk.specs.End.{cells_fault, counts_fault, DayEnds}
-use Rattle.desk.specs.Way.{day_places}
-use Rattle.desk.proofs.EndLaws.{ended_by, ended_by_lem}
+use Rattle.desk.specs.End.{cells_fault, counts_fault}
+use Rattle.desk.proofs.EndLaws.{ended_by_lem}
 use Rattle.desk.proofs.VerdictLaws.{kinds_are}
 use Rattle.desk.proofs.end.end_with.Goals as goal
 

@@ -23,14 +23,13 @@ returns-then-not-cells_good c =
     }
 
 pub judge_day-requires : goal.judge_day-requires
-judge_day-requires c =
-    (
-      lent_short c.args.day.head c.args.log.now c.requires.0.most_contracts,
-      rw
-          c.kinds_of-kinds.ensures c.requires.1,
-      rw
-          c.kinds_of-kinds.ensures c.requires.2,
-    )
+judge_day-requires c = (
+  lent_short c.args.day.head c.args.log.now c.requires.0.most_contracts,
+  rw
+      c.kinds_of-kinds.ensures c.requires.1,
+  rw
+      c.kinds_of-kinds.ensures c.requires.2,
+)
 
 pub returns : goal.returns
 unfolding cells_fault

@@ -3,7 +3,6 @@ use Rattle.places.specs.Places.{ladders}
 use Rattle.rules.proofs.KindLaws.{few}
 use Rattle.wire.proofs.TurnLaws.{byte_turn, bytes_all}
 use Rattle.wire.proofs.BufferLaws.{no_rows}
-use Prim.Native.Nat.{◌-◌}
 use native.Mathlib.Omega.{arith}
 use mathlib.Core.Path.{refl, ◌∙◌}
 use borrow.Author.Rules.{rules}

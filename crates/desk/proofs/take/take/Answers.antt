@@ -18,7 +18,7 @@ returns-in-Refused c =
     let a = c.args in
     let fault = held_fault c.in-Open.day a.log.now a.row.now (length a.counts.now) in
     let j = weighed_no fault (plan_in a.log.now a.row.now) (reasons_in a.log.now a.row.now) _
-        (sym c.in-Refused.is ∙ c.weigh_day.ensures) in
+    (sym c.in-Refused.is ∙ c.weigh_day.ensures) in
     rw c.in-Open.is (refused_first _ _ _ j.0 j.1)
 
 pub returns-in-Counts : goal.returns-in-Counts
@@ -27,6 +27,6 @@ returns-in-Counts c =
     let a = c.args in
     let fault = held_fault c.in-Open.day a.log.now a.row.now (length a.counts.now) in
     let j = weighed_yes fault (plan_in a.log.now a.row.now) (reasons_in a.log.now a.row.now) _ _
-        (sym c.in-Counts.is ∙ c.weigh_day.ensures) in
+    (sym c.in-Counts.is ∙ c.weigh_day.ensures) in
     rw c.in-Open.is
     (then_by _ _ j.0 (rw (← held_head c.in-Open.day _ _ _ j.0, ← j.1, ← j.2) c.count_record.ensures))

@@ -33,7 +33,7 @@ returns-in_default-weighed c =
     let told = c.in_default-weighed.is in
     let fault = held_fault c.in-Open.day a.log.now a.row.now (length a.counts.now) in
     let j = weighed_no fault (plan_in a.log.now a.row.now) (reasons_in a.log.now a.row.now) _
-        (sym told ∙ c.weigh_day-weighed.ensures) in
+    (sym told ∙ c.weigh_day-weighed.ensures) in
     rw c.in-Open.is (told ∙ answer_first _ _ _ _ _ j.0 j.1)
 
 pub returns-then-fault-ne0 : goal.returns-then-fault-ne0
@@ -41,7 +41,7 @@ unfolding would_take take_fault day_fault
 returns-then-fault-ne0 c =
     let a = c.args in
     let j = counts c.in-Open.day a.log.now a.row.now (length a.counts.now) _ _ _ c.in-Counts.is
-        c.weigh_day-weighed.ensures in
+    c.weigh_day-weighed.ensures in
     rw c.in-Open.is
     (answer_then _ _ _ _ j.0
     (answer_refused _ _ _ _ (rw (c.kinds_of.ensures, j.1) at c.plan_fault-fault.ensures) c.if-fault-ne0.true))
@@ -51,7 +51,7 @@ unfolding would_take take_fault day_fault
 returns c =
     let a = c.args in
     let j = counts c.in-Open.day a.log.now a.row.now (length a.counts.now) _ _ _ c.in-Counts.is
-        c.weigh_day-weighed.ensures in
+    c.weigh_day-weighed.ensures in
     rw c.in-Open.is
     (answer_then _ _ _ _ j.0
     (answer_done _ _ _ (sym (rw (c.kinds_of.ensures, j.1) at c.plan_fault-fault.ensures) ∙ c.if-fault-ne0.false)

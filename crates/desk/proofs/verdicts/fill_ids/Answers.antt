@@ -6,7 +6,7 @@ use Rattle.wire.proofs.BufferLaws.{no_rows}
 use Rattle.wire.proofs.ByteLaws.{bytes_length}
 use Rattle.wire.specs.Buffers.{put_in}
 use Rattle.wire.specs.Bytes.{bytes}
-use Prim.Native.Nat.{◌-◌, ◌*◌}
+use Prim.Native.Nat.{◌*◌}
 use native.Mathlib.Omega.{arith}
 use mathlib.Core.Path.{refl, ap, ◌∙◌}
 use borrow.Author.Rules.{rules}

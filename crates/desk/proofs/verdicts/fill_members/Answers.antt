@@ -1,7 +1,6 @@
 use borrow.Author.Rules.{rules}
 use mathlib.Core.Path.{refl, ap, ◌∙◌}
 use native.Mathlib.Omega.{arith}
-use Prim.Native.Nat.{◌-◌}
 use Rattle.wire.specs.Choice.{pick}
 use Rattle.wire.proofs.BufferLaws.{no_rows}
 use Rattle.wire.proofs.TurnLaws.{byte_turn, bytes_all}

@@ -5,7 +5,6 @@ use Rattle.wire.specs.Below.{every}
 use lib.ListN.{get_or}
 use lib.Dec.{leb}
 use mathlib.Core.Bool.{◌&&◌}
-use Prim.Native.Nat.{◌-◌}
 use native.Mathlib.Omega.{arith}
 use mathlib.Core.Path.{◌≡◌, refl, sym, ap, ap₂, ◌∙◌}
 use borrow.Author.Rules.{rules}

@@ -3,7 +3,6 @@ use Rattle.places.specs.Places.{ladders}
 use Rattle.rules.proofs.KindLaws.{few}
 use Rattle.wire.proofs.TurnLaws.{byte_turn, bytes_all}
 use Rattle.wire.proofs.BufferLaws.{no_rows}
-use Prim.Native.Nat.{◌-◌}
 use native.Mathlib.Omega.{arith}
 use mathlib.Core.Path.{refl, ◌∙◌}
 use borrow.Author.Rules.{rules}
@@ -39,7 +38,7 @@ loop-l-preserved c =
     let a = c.args in
     let l = c.loop-l in (
       search rules,
-      c.put8.auto.0 ∙ l.invariant.1,
+      c.put8.auto.s ∙ l.invariant.1,
       byte_turn (place_at a.text a.kinds a.fams.now a.counts.now) a.places.now l.places _ l.l _
           l.invariant.2
           c.place_at-place.ensures.0 c.put8.ensures

@@ -5,8 +5,8 @@ use lib.Dec.{eqb}
 use lib.ListN.{get_or}
 use borrow.Author.Count.{below_none, below_more}
 use native.Mathlib.Omega.{arith}
-use Prim.Native.Nat.{◌-◌, ◌%◌}
-use mathlib.Core.Bool.{false, ◌&&◌}
+use Prim.Native.Nat.{◌%◌}
+use mathlib.Core.Bool.{◌&&◌}
 use mathlib.Core.Path.{sym, ap, ◌∙◌}
 use borrow.Author.Rules.{rules}
 use Rattle.desk.proofs.ladders.place_at.Goals as goal

@@ -6,9 +6,6 @@ use Rattle.desk.proofs.EndLaws.{ended_by_lem}
 use Rattle.desk.proofs.VerdictLaws.{kinds_are}
 use Rattle.desk.proofs.end.end_with.Goals as goal
 
-pub judge_cells-fault-requires : goal.judge_cells-fault-requires
-judge_cells-fault-requires c = let h = c.requires in (h.1, h.2, h.3)
-
 pub returns-then-fault-ne0 : goal.returns-then-fault-ne0
 unfolding counts_fault
 returns-then-fault-ne0 c =
@@ -16,9 +13,6 @@ returns-then-fault-ne0 c =
     refused_first _ _ _ (c.judge_cells-fault.ensures.value
     ∙ ap (λ k. cells_fault k a.day.taken a.counts.now)
     (kinds_are a.day.head a.log.now a.counts.now c.requires.0 c.requires.1)) c.if-fault-ne0.true
-
-pub settle_day-requires : goal.settle_day-requires
-settle_day-requires c = c.requires.1
 
 pub returns-in-Found : goal.returns-in-Found
 returns-in-Found c =

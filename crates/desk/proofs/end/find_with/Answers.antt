@@ -7,9 +7,6 @@ use Rattle.desk.proofs.EndLaws.{found_low, found_short, found_done}
 use Rattle.desk.proofs.VerdictLaws.{kinds_are}
 use Rattle.desk.proofs.end.find_with.Goals as goal
 
-pub judge_cells-fault-requires : goal.judge_cells-fault-requires
-judge_cells-fault-requires c = let h = c.requires in (h.1, h.2, h.3)
-
 pub returns-then-fault-ne0 : goal.returns-then-fault-ne0
 unfolding day_found counts_fault
 returns-then-fault-ne0 c =

@@ -7,9 +7,6 @@ use Rattle.daylog.proofs.LentTables.{lent_short}
 use Rattle.desk.specs.End.{cells_good, cells_fault}
 use Rattle.desk.proofs.end.judge_cells.Goals as goal
 
-pub cells_good-requires : goal.cells_good-requires
-cells_good-requires c = rw c.kinds_of-kinds.ensures c.requires.1
-
 pub returns-then-not-cells_good : goal.returns-then-not-cells_good
 unfolding cells_fault
 returns-then-not-cells_good c =

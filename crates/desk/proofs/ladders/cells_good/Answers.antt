@@ -13,9 +13,6 @@ use Rattle.desk.proofs.ladders.cells_good.Goals as goal
 pub loop-i-init : goal.loop-i-init
 loop-i-init c = (search rules, sym (every_none _))
 
-pub offset_bounds-counts-i : goal.offset_bounds-counts-i
-offset_bounds-counts-i c = omega (arith, c.cells_in-i-end.ensures)
-
 pub loop-i-preserved : goal.loop-i-preserved
 loop-i-preserved c =
     let a = c.args in

@@ -1,6 +1,5 @@
 use Rattle.desk.specs.Way.{place_at, places_in}
 use Rattle.places.specs.Places.{ladders}
-use Rattle.rules.proofs.KindLaws.{few}
 use Rattle.wire.proofs.TurnLaws.{byte_turn, bytes_all}
 use Rattle.wire.proofs.BufferLaws.{no_rows}
 use native.Mathlib.Omega.{arith}
@@ -10,28 +9,6 @@ use Rattle.desk.proofs.ladders.fill_places.Goals as goal
 
 pub loop-l-init : goal.loop-l-init
 loop-l-init c = (search rules, refl, no_rows _ _ _)
-
-pub place_at-place-requires : goal.place_at-place-requires
-place_at-place-requires c = (
-  c.requires.0,
-  c.requires.1,
-  omega (arith, c.ladders_in-l-end.ensures),
-)
-
-pub overflow_cast-place : goal.overflow_cast-place
-overflow_cast-place c =
-    omega (
-      arith,
-      c.place_at-place.ensures.1,
-      c.requires.0,
-    )
-
-pub overflow_step-l : goal.overflow_step-l
-overflow_step-l c = omega (
-  arith,
-  few c.args.kinds,
-  c.ladders_in-l-end.ensures,
-)
 
 pub loop-l-preserved : goal.loop-l-preserved
 loop-l-preserved c =

@@ -30,8 +30,10 @@ returns-then-fault-ne0 c = or_first_by _ _ _ c.log_fault-fault.ensures c.if-faul
 pub returns-then-second-ne0 : goal.returns-then-second-ne0
 unfolding handed_fault
 returns-then-second-ne0 c =
+    let a = c.args in
+    let book = book_is a.log.now a.book.now _ _ c.header_of-head.ensures c.book_fault-second.ensures in
     or_else_by _ _ _ (sym c.log_fault-fault.ensures ∙ c.if-fault-ne0.false)
-    (or_first_by _ _ _ (book_is c.args.log.now c.args.book.now _ _ c.header_of-head.ensures c.book_fault-second.ensures) c.if-second-ne0.true)
+    (or_first_by _ _ _ book c.if-second-ne0.true)
 
 pub returns-then-len-cells_in : goal.returns-then-len-cells_in
 unfolding handed_fault few_fault

@@ -14,7 +14,8 @@ byte_for accounts k = pick (has_member (account_at accounts) (entries accounts) 
 
 abbrev pub invariant-loop-g : goal.invariant-loop-g
 invariant-loop-g l =
-    (l.g ≤ 128) × (length l.members ≡ length l.initial.members) × (l.members ≡ put l.initial.members 0 (rows (λ j. byte_for l.accounts j ∷ []) l.g))
+    (l.g ≤ 128) × (length l.members ≡ length l.initial.members)
+    × (l.members ≡ put l.initial.members 0 (rows (λ j. byte_for l.accounts j ∷ []) l.g))
 
 abbrev pub decreases-loop-g : goal.decreases-loop-g
 decreases-loop-g l = 128 - l.g

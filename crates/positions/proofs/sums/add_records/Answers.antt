@@ -82,7 +82,7 @@ add-requires c =
           c.requires.1 (λ r. r.long)
           (long_most a.records.now (λ i. omega (
             arith,
-            c.shared_slice_known-3-1.given i,
+            c.type_inv.records i,
           ))) l.k
           c.cell_of-cell.result l.invariant.5,
       c.requires.2,
@@ -99,7 +99,7 @@ add-requires-in-loop-k c =
           (λ r. r.short)
           (short_most a.records.now (λ i. omega (
             arith,
-            c.shared_slice_known-3-1.given i,
+            c.type_inv.records i,
           ))) l.k
           c.cell_of-cell.result l.invariant.6,
       c.requires.2,

@@ -269,7 +269,8 @@ module _ (a b : ℕ) (t t' : Tables) (j : Joined a b t t') (some_a : 1 ≤ a) (a
     counts_joined g k place = ap (λ (p : Plan). counts_as p k && eqb p.group g && eqb p.place place) plan_joined
 
     cancels_add : (k place : ℕ) → (k ≡ 1 → ⊥)
-        → pick (counts_for t' r b k place) 1 0 ≡ pick (counts_for t r a k place) 1 0 + pick (counts_for t r b k place) 1 0
+        → pick (counts_for t' r b k place) 1 0
+        ≡ pick (counts_for t r a k place) 1 0 + pick (counts_for t r b k place) 1 0
     cancels_add k place n =
         rw (
           counts_joined b k place,
@@ -283,7 +284,8 @@ module _ (a b : ℕ) (t t' : Tables) (j : Joined a b t t') (some_a : 1 ≤ a) (a
 
     selfs_add : (place : ℕ)
         → pick (counts_for t' r b 1 place) 1 0
-        ≡ pick (counts_for t r a 1 place) 1 0 + pick (counts_for t r b 1 place) 1 0 + pick (between_for t r a b place) 1 0
+        ≡ pick (counts_for t r a 1 place) 1 0 + pick (counts_for t r b 1 place) 1 0 + pick
+        (between_for t r a b place) 1 0
     unfolding between_for
     selfs_add place =
         rw (

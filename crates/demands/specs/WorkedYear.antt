@@ -24,7 +24,8 @@ year_desk = clerk_desk (blank 1)
 -- 2 January: four trades 11 to 12; a record with contract 102, which is refused; and one trade 11 to 11
 unfoldable pub first_trades : List Step
 first_trades =
-    replicate 4 (take_record (trade_row 11 12)) ++ (take_record (trade_on 102 11 12) ∷ take_record (trade_row 11 11) ∷ [])
+    replicate 4 (take_record (trade_row 11 12))
+    ++ (take_record (trade_on 102 11 12) ∷ take_record (trade_row 11 11) ∷ [])
 
 -- 3 January: five trades 11 to 11
 unfoldable pub second_trades : List Step

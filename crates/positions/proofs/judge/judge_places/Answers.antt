@@ -23,7 +23,8 @@ on-tables h log longs shorts t s e =
     ∙ ap₂ (λ x y. places_in x (take (16 + 16 * h.contracts - 16) (drop 16 log))
     (families_in x (take (16 + 16 * h.contracts - 16) (drop 16 log))) longs shorts y) t
     (s ∙ ap sizes_in (part_of log (accounts_from h) (8 * h.accounts)))
-    ∙ ap (λ part. places_in (text_of h) part (families_in (text_of h) part) longs shorts (sizes_in (accounts_part h log)))
+    ∙ ap (λ part. places_in (text_of h) part (families_in (text_of h) part) longs shorts
+    (sizes_in (accounts_part h log)))
     (part_of log 16 (16 * h.contracts))
 
 pub returns : goal.returns

@@ -1,6 +1,4 @@
 use mathlib.Core.Path.{◌≡◌, refl, ap, ◌∙◌}
-use mathlib.Core.Bool.{true}
-use Prim.Native.Nat.{◌-◌}
 use native.Mathlib.Omega.{arith}
 use Rattle.wire.proofs.BelowLaws.{every_none, every_more}
 use Rattle.positions.specs.Records.{record_count, contract_before, account_before}
@@ -33,7 +31,8 @@ next_place-place-requires c = c.loop-k.invariant.3
 
 pub returns-then-not-fields_good-place : goal.returns-then-not-fields_good-place
 returns-then-not-fields_good-place c =
-    let look : Looked c.args.contracts.now c.args.accounts.now c.args.records.now c.requires.1 c.loop-k.k c.loop-k.contract
+    let look : Looked c.args.contracts.now c.args.accounts.now c.args.records.now c.requires.1 c.loop-k.k
+    c.loop-k.contract
     c.loop-k.account c.position_at-r.result c.next_place-place.result c.find_account-entry.result.now =
     record {
       own = c.position_at-r.ensures;
@@ -54,7 +53,8 @@ returns-then-not-fields_good-place c =
 
 pub overflow_cast-place : goal.overflow_cast-place
 overflow_cast-place c =
-    let look : Looked c.args.contracts.now c.args.accounts.now c.args.records.now c.requires.1 c.loop-k.k c.loop-k.contract
+    let look : Looked c.args.contracts.now c.args.accounts.now c.args.records.now c.requires.1 c.loop-k.k
+    c.loop-k.contract
     c.loop-k.account c.position_at-r.result c.next_place-place.result c.find_account-entry.result.now =
     record {
       own = c.position_at-r.ensures;
@@ -114,7 +114,8 @@ overflow_step-k c =
 
 pub loop-k-preserved : goal.loop-k-preserved
 loop-k-preserved c =
-    let look : Looked c.args.contracts.now c.args.accounts.now c.args.records.now c.requires.1 c.loop-k.k c.loop-k.contract
+    let look : Looked c.args.contracts.now c.args.accounts.now c.args.records.now c.requires.1 c.loop-k.k
+    c.loop-k.contract
     c.loop-k.account c.position_at-r.result c.next_place-place.result c.find_account-entry.result.now =
     record {
       own = c.position_at-r.ensures;

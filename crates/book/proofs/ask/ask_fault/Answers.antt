@@ -1,0 +1,15 @@
+use Rattle.wire.proofs.ChoiceLaws.{chain}
+use Rattle.book.specs.Ask.{ask_fault_as}
+use Rattle.book.proofs.ask.ask_fault.Goals as goal
+
+pub returns-then-not-is_sound_as : goal.returns-then-not-is_sound_as
+unfolding ask_fault_as
+returns-then-not-is_sound_as c = search chain depth 12
+
+pub returns-then-not-in_range : goal.returns-then-not-in_range
+unfolding ask_fault_as
+returns-then-not-in_range c = search chain depth 12
+
+pub returns : goal.returns
+unfolding ask_fault_as
+returns c = search chain depth 12

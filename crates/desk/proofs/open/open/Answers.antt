@@ -1,0 +1,41 @@
+use mathlib.Core.Path.{◌≡◌, refl, sym, ◌∙◌, ap}
+use mathlib.Core.List.{◌++◌}
+use Prim.Native.Nat.{ℕ}
+use lib.ListN.{length, drop, replicate}
+use Rattle.wire.proofs.AnswerLaws.{refused, done}
+use Rattle.daylog.specs.Header.{header_of}
+use Rattle.places.specs.Places.{cells}
+use Rattle.desk.specs.Open.{kinds_for, open_fault, zeroed}
+use Rattle.desk.proofs.HandedLaws.{room_opened}
+use Rattle.desk.proofs.open.open.Goals as goal
+
+-- what the call is handed
+abbrev args : tie.After-cells-in → tie.Start
+args c = c
+
+-- no refusal
+opens : (c : tie.After-cells-in) → let a = (args c).args in
+    open_fault a.state a.log.now a.book.now (length a.counts.now) ≡ 0
+opens c = let b = c in sym b.would_open-fault.ensures ∙ b.if-fault-ne0.false
+
+-- the cells, by the log's header
+cells_is : (c : tie.After-cells-in) → c.cells_in.result ≡ cells (kinds_for (header_of (args c).args.log.now))
+cells_is c =
+    c.cells_in.ensures ∙ ap (λ k. cells k) c.kinds_of.ensures
+    ∙ ap (λ h. cells (kinds_for h)) c.header_of-head.ensures
+
+pub returns-then-fault-ne0 : goal.returns-then-fault-ne0
+returns-then-fault-ne0 c = refused _ _ c.would_open-fault.ensures c.if-fault-ne0.true
+
+pub zero_first-requires : goal.zero_first-requires
+zero_first-requires c =
+    let a = (args c).args in
+    rw (cells_is c) (room_opened a.state a.log.now a.book.now _ (opens c))
+
+pub returns : goal.returns
+unfolding zeroed
+returns c =
+    let b = c in
+    let zeroes = ap (λ (n : ℕ). replicate n 0 ++ drop n (args b).args.counts.now) (cells_is b) in
+    rw b.header_of-head.ensures
+    (done _ (opens b) refl (c.zero-first.ensures ∙ zeroes))

@@ -1,0 +1,11 @@
+use mathlib.Core.Path.{refl}
+use Rattle.desk.specs.Open.{open_fault}
+use Rattle.desk.proofs.open.would_open.Goals as goal
+
+pub returns-in_default : goal.returns-in_default
+unfolding open_fault
+returns-in_default c = rw c.enum_told-in_default-1.given.1 refl
+
+pub returns : goal.returns
+unfolding open_fault
+returns c = rw c.enum_told-1.given.1 c.handed-fault.ensures

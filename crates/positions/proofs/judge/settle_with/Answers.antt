@@ -1,0 +1,9 @@
+use Rattle.positions.proofs.judge.settle_with.Goals as goal
+
+pub returns : goal.returns
+returns c =
+    rw (
+      c.position_shape.ensures,
+      c.fill-ids.ensures,
+    ) at
+    c.settle.ensures

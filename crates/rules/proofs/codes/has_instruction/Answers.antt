@@ -1,0 +1,5 @@
+use mathlib.Core.Path.{refl}
+use Rattle.rules.proofs.codes.has_instruction.Goals as goal
+
+pub returns : goal.returns
+returns c = refl

@@ -1,0 +1,45 @@
+use mathlib.Core.Path.{◌≡◌, refl, sym, ◌∙◌}
+use mathlib.Core.Logic.{⊎_elim}
+use native.Mathlib.Omega.{arith}
+use Rattle.tables.specs.Accounts.{account_at}
+use Rattle.tables.specs.Way.{halved}
+use Rattle.tables.proofs.Search.{next, next_up, next_stay, next_le, halve_end, halve_turn}
+use Rattle.tables.proofs.accounts.halving.Goals as goal
+
+pub loop-size-init : goal.loop-size-init
+unfolding halved
+loop-size-init c = (omega arith, omega arith, refl)
+
+pub overflow_add-from : goal.overflow_add-from
+overflow_add-from c = omega arith
+
+pub overflow_mul-from : goal.overflow_mul-from
+overflow_mul-from c = omega arith
+
+pub word-requires : goal.word-requires
+word-requires c = omega arith
+
+pub overflow_add-from-then-word-number : goal.overflow_add-from-then-word-number
+overflow_add-from-then-word-number c = omega arith
+
+pub overflow_sub-size : goal.overflow_sub-size
+overflow_sub-size c = omega arith
+
+pub loop-size-smaller : goal.loop-size-smaller
+loop-size-smaller c = omega arith
+
+pub loop-size-preserved : goal.loop-size-preserved
+unfolding account_at
+loop-size-preserved c =
+    let a = c.args in
+    let l = c.loop-size in
+    let e : c.if-word-number.from ≡ next a.part.now a.number l.from l.size =
+    ⊎_elim (λ w. w.1 ∙ next_up _ _ _ _ (omega arith)) (λ w. w.1 ∙ next_stay _ _ _ _ (omega arith)) c.if-word-number.branch in
+    rw e (
+      omega arith,
+      omega (arith, next_le a.part.now a.number l.from l.size),
+      l.invariant.2 ∙ halve_turn _ _ _ _ _ c.loop-size-test.true (omega arith),
+    )
+
+pub returns : goal.returns
+returns c = let l = c.loop-size in sym (l.invariant.2 ∙ halve_end _ _ _ _ _ c.loop-size-test.false)

@@ -1,0 +1,60 @@
+use Rattle.verdict.proofs.SettleLaws.{found_most, found_in, settle_short, settle_done}
+use Rattle.verdict.specs.Settle.{settle_fault}
+use Rattle.verdict.specs.Verdict.{verdict_in}
+use Rattle.rules.proofs.KindLaws.{few}
+use Rattle.wire.proofs.AnswerLaws.{refused}
+use Rattle.wire.proofs.ChoiceLaws.{pick_yes, flip_yes}
+use borrow.Author.Tests.{ne_eqb}
+use native.Mathlib.Omega.{arith}
+use mathlib.Core.Path.{refl, sym, ◌∙◌}
+use Rattle.verdict.proofs.settle.settle.Goals as goal
+
+pub returns-then-book-book_size : goal.returns-then-book-book_size
+unfolding settle_fault verdict_in
+returns-then-book-book_size c = refused _ 17
+    (pick_yes _ _ _ _ (flip_yes _ (ne_eqb _ _ (λ e. c.if-book-book_size.true (e ∙ sym c.book_size.ensures)))) refl)
+    (λ z. absurd (omega arith))
+
+pub overflow_mul-found : goal.overflow_mul-found
+unfolding verdict_in
+overflow_mul-found c =
+    let a = c.args in
+    omega (
+      arith,
+      few a.shape.kinds,
+      found_most (verdict_in a.shape a.rulebook a.places.now a.ids.now
+          a.members.now),
+      found_in a.shape a.rulebook a.places.now a.ids.now
+          a.members.now,
+      c.count_found-found.ensures,
+    )
+
+pub returns-then-out-found : goal.returns-then-out-found
+returns-then-out-found c =
+    let a = c.args in
+    settle_short a.shape a.rulebook a.places.now a.ids.now a.members.now a.date a.book.now
+    a.out.now _ (c.if-book-book_size.false ∙ c.book_size.ensures)
+    c.count_found-found.ensures c.if-out-found.true
+
+pub write_day-requires : goal.write_day-requires
+write_day-requires c =
+    let a = c.args in (
+      c.if-book-book_size.false ∙ c.book_size.ensures,
+      omega (
+        arith,
+        c.count_found-found.ensures,
+        found_in a.shape a.rulebook
+            a.places.now a.ids.now a.members.now,
+      ),
+    )
+
+pub returns : goal.returns
+returns c =
+    let a = c.args in
+    settle_done a.shape a.rulebook a.places.now a.ids.now a.members.now a.date a.book.now
+    a.out.now _ (c.if-book-book_size.false
+    ∙ c.book_size.ensures)
+    c.count_found-found.ensures
+    c.if-out-found.false
+    c.write-day.ensures.0
+    c.write-day.ensures.1

@@ -1,0 +1,14 @@
+use Rattle.verdict.proofs.SettleLaws.{book_written}
+use Rattle.verdict.proofs.settle.write_day.Goals as goal
+
+pub returns : goal.returns
+returns c =
+    let s = c in
+    let a = s.args in (
+      book_written a.shape a.rulebook a.places.now a.ids.now a.members.now a.date
+          a.book.now _ _ _
+          c.is_later_year-later.ensures
+          s.requires.0 c.raise-all.ensures
+          c.put_head.ensures,
+      c.list_all.ensures,
+    )

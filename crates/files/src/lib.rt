@@ -5,6 +5,7 @@
 pub mod beside;
 pub mod input;
 mod known;
+pub mod names;
 pub mod output;
 pub mod said;
 

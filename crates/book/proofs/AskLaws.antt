@@ -31,7 +31,7 @@ in_range_lem k group kind family e =
       row = record {
         first_group = g.0;
         last_group = g.1;
-        first_kind = leb-true (first_kind k) kind (and_left from to kinds);
+        least_kind = leb-true (first_kind k) kind (and_left from to kinds);
         last_kind = ltb-true kind (first_kind k + kinds_in k) (and_right from to kinds);
       };
       last_family = leb-true family 15 (and_right (groups && (from && to)) (leb family 15) e);

@@ -188,7 +188,7 @@ module _ (t : Tables) (r : Record) where
   pub counts_by : (p : Plan) (why : Reasons) → 0 ≡ fields_fault t r → p ≡ plan_of t r → why ≡ reasons_of t r
       → Counts p why ≡ weighed t r
   unfolding weighed
-  counts_by p why e is clear = answer_done _ Refused (fields_fault t r) (sym e) (ap₂ Counts is clear)
+  counts_by p w e is clear = answer_done _ Refused (fields_fault t r) (sym e) (ap₂ Counts is clear)
 
 -- and read back: an answer that refuses has the refusal's number, and one that counts has the plan and the clauses
 module _ (fault : ℕ) (p : Plan) (why : Reasons) where

@@ -47,7 +47,8 @@ accounts_part h log = drop (16 + 8 * h.contracts) log
 
 -- the day's tables
 unfoldable pub tables_of : List ℕ → Tables
-tables_of log = tables_in (text_of (header_of log)) (contracts_part (header_of log) log) (accounts_part (header_of log) log)
+tables_of log =
+    tables_in (text_of (header_of log)) (contracts_part (header_of log) log) (accounts_part (header_of log) log)
 
 -- 1: "not 16+8C+8A"; "7, 8: a contract entry; an account entry"
 unfoldable pub entries_fault : Header → List ℕ → ℕ

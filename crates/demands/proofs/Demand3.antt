@@ -66,7 +66,7 @@ module _ (kinds : Kinds) (begin : first_kind kinds ≡ 1) (a b : ℕ) (two : Two
     row = record {
       first_group = p;
       last_group = q;
-      first_kind = omega arith;
+      least_kind = omega arith;
       last_kind = omega (arith, three_kinds kinds begin);
     };
     last_place = u;

@@ -52,7 +52,7 @@ module _ (a b : ℕ) (two : Two a b) (t t' : Tables) (j : Joined a b t t') (rs :
     row = record {
       first_group = two.first_a;
       last_group = two.last_a;
-      first_kind = i.row.first_kind;
+      least_kind = i.row.least_kind;
       last_kind = i.row.last_kind;
     };
     last_family = i.last_family;

@@ -85,7 +85,7 @@ placed t o r h k low high =
       row = record {
         first_group = omega (arith, o.first_group (place_of t r.first) h.account);
         last_group = omega (arith, o.last_group (place_of t r.first) h.account);
-        first_kind = omega arith;
+        least_kind = omega arith;
         last_kind = omega (arith, three_kinds (kinds_on t) begin);
       };
       last_place = omega (arith, o.few, h.contract);

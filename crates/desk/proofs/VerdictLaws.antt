@@ -33,7 +33,7 @@ use Rattle.places.specs.Places.{ladders, kind_at, family_at}
 use Rattle.book.specs.Shape.{day_shape}
 use Rattle.posting.specs.Raise.{place_in}
 use Rattle.verdict.specs.Verdict.{Verdict, verdict_in, found_count, found_in}
-use Rattle.verdict.proofs.SettleLaws.{found_in}
+use Rattle.verdict.proofs.SettleLaws.{found_in_lem}
 use Rattle.verdict.proofs.SameVerdict.{Same, same_count}
 use Rattle.desk.specs.Offences.{kinds_on, family_of, reached_at, lowest, lowest_on, verdict_on}
 use Rattle.desk.specs.Open.{kinds_for}
@@ -159,6 +159,6 @@ module _ (h : Header) (log c : List ℕ) (e : h ≡ header_of log) (good : GoodL
   count_same small =
       ap (found_in (kinds_for h) (day_places h log c))
       (sym (ids_length (text_of h) (contracts_part h log) (accounts_part h log) c ∙ size_is))
-      ∙ found_in (day_shape h.rulebook) h.rulebook (day_places h log c) (ids_in (contracts_part h log))
+      ∙ found_in_lem (day_shape h.rulebook) h.rulebook (day_places h log c) (ids_in (contracts_part h log))
       (members_in (accounts_part h log))
       ∙ same_count _ _ (day_same small)

@@ -1,6 +1,7 @@
 -- Demand 3, its words: "in every day's table give all accounts of group a the number of group b .., as a change of
 -- bytes in the lent tables and of nothing else". For account entries that stand anywhere in some bytes.
-use Rattle.std.specs.Prelude.{◌≡◌, Bool, ◌&&◌, List, [], ◌∷◌, ℕ, suc, ◌+◌, ◌-◌, ◌*◌, ◌%◌, ◌≤◌, ◌<◌, leb, ltb, eqb, length, get_or, take, drop}
+use Rattle.std.specs.Prelude.{◌≡◌, Bool, ◌&&◌, List, [], ◌∷◌, leb, ltb, eqb, length, get_or, take, drop}
+use Rattle.std.specs.Prelude.{ℕ, suc, ◌+◌, ◌-◌, ◌*◌, ◌%◌, ◌≤◌, ◌<◌}
 use Rattle.wire.specs.Choice.{pick}
 use Rattle.tables.specs.declared.accounts.Account.{Account}
 use Rattle.tables.specs.Entries.{entries}

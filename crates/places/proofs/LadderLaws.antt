@@ -37,7 +37,7 @@ pub row_at : (k : Kinds) (l : ℕ) → l < ladders k → HasRow k (group_at k l)
 row_at k l h = record {
   first_group = omega arith;
   last_group = group_low k l h;
-  first_kind = omega arith;
+  least_kind = omega arith;
   last_kind = kind_low k l;
 }
 
@@ -92,7 +92,7 @@ cell_in_lem k i h = record {
   row = record {
     first_group = omega arith;
     last_group = cell_group k i h;
-    first_kind = omega arith;
+    least_kind = omega arith;
     last_kind = cell_kind k i;
   };
   last_place = omega arith;

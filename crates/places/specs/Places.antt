@@ -46,7 +46,7 @@ cell_of kinds group kind place = ((group - 1) * kinds_in kinds + (kind - first_k
 pub record HasRow (kinds : Kinds) (group kind : ℕ) : Type 0 where
   pub first_group : 1 ≤ group
   pub last_group : group ≤ 128
-  pub first_kind : first_kind kinds ≤ kind
+  pub least_kind : first_kind kinds ≤ kind
   pub last_kind : kind < first_kind kinds + kinds_in kinds
 
 pub record HasLadder (kinds : Kinds) (group kind family : ℕ) : Type 0 where

@@ -125,6 +125,8 @@ reads : (a b : ℕ) → Two a b → (h h' : History) (book book' : List ℕ) (lo
     → Read a b h h' book book' logs js js'
 unfolding accepted last_file with_log
 reads a b two h h' book book' [] [] [] s no_log no_log = record { numbered = refl; after = s }
+reads a b two h h' book book' [] [] (_ ∷ _) s _ r' = elim r' [ ]
+reads a b two h h' book book' [] (_ ∷ _) _ s r _ = elim r [ ]
 reads a b two h h' book book' (log ∷ logs) _ _ s (a_log {g = g} {js = js} m r) (a_log {g = g'} {js = js'} m' r') =
     let w = clerk_lent book in
     let w' = clerk_lent book' in

@@ -237,12 +237,12 @@ module _ (a b : ℕ) (two : Two a b) (p p' : Positions) (j : Joined a b p p') wh
       (family_of_lem One g kind family' h.last_family)
 
   -- any group has the ladders that b has
-  ladder_of : (g kind family' : ℕ) → 1 ≤ g → g ≤ 128 → HasLadder One b kind family' → HasLadder One g kind family'
-  ladder_of g kind family' low high h = record {
+  ladder_any : (g kind family' : ℕ) → 1 ≤ g → g ≤ 128 → HasLadder One b kind family' → HasLadder One g kind family'
+  ladder_any g kind family' low high h = record {
     row = record {
       first_group = low;
       last_group = high;
-      first_kind = h.row.first_kind;
+      least_kind = h.row.least_kind;
       last_kind = h.row.last_kind;
     };
     last_family = h.last_family;
@@ -271,6 +271,6 @@ module _ (a b : ℕ) (two : Two a b) (p p' : Positions) (j : Joined a b p p') wh
       on_b kind family' h (inl o) =
           on_ladder p' b kind family' h
           ∙ stays family'
-          (inl (sym (on_ladder p a kind family' (ladder_of a kind family' two.first_a two.last_a h)) ∙ o))
+          (inl (sym (on_ladder p a kind family' (ladder_any a kind family' two.first_a two.last_a h)) ∙ o))
       on_b kind family' h (inr o) =
           on_ladder p' b kind family' h ∙ stays family' (inr (sym (on_ladder p b kind family' h) ∙ o))

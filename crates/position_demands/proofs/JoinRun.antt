@@ -234,6 +234,8 @@ module _ (a b : ℕ) (two : Two a b) where
       → full_room ≤ length w'.out → all_roomy cs' ≡ true → Runs w w' h h' cs cs' gs gs'
   unfolding history left all_roomy
   runs h h' s no_call no_call none f l r = record { numbered = refl; after = s }
+  runs h h' s no_call (a_call m' ran') j f l r = elim j [ ]
+  runs h h' s (a_call m ran) no_call j f l r = elim j [ ]
   runs {w} {w'} h h' s (a_call {c = c} {g = g} m ran) (a_call {c = c'} {cs = cs'} {g = g'} m' ran') (more j js) f l r =
       let n : named_number w' c' ≡ named_number w c = named_same s w w' refl refl j (fair_step m f) l in
       let rest = runs (recorded w c h) (recorded w' c' h') (beside_step s m m' j n) ran ran' js (fair_rest m f)

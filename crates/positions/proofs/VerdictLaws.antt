@@ -91,7 +91,7 @@ module _ (text : Text) (contracts accounts records : List ℕ) (few : limit_coun
         row = record {
           first_group = omega (arith, bounds.0, e);
           last_group = omega (arith, bounds.1, e);
-          first_kind = omega arith;
+          least_kind = omega arith;
           last_kind = omega arith;
         };
         last_place = omega (arith, q.0, few);

@@ -68,7 +68,7 @@ fn front_fault(log: &[u8]) -> u32
 pub(crate) fn read_log(log: &[u8], longs: &mut [u64], shorts: &mut [u64]) -> u32
     requires { (longs.old ≡ replicate (cells One) 0) × (shorts.old ≡ replicate (cells One) 0) }
     ensures value { result ≡ log_fault log.now }
-    ensures longs_after { result ≡ 0 → (longs.new ≡ long_in (header_of log.now) log.now) ×
+    ensures sums_after { result ≡ 0 → (longs.new ≡ long_in (header_of log.now) log.now) ×
         (shorts.new ≡ short_in (header_of log.now) log.now) }
 {
     let fault = front_fault(log);

@@ -58,7 +58,7 @@ pub(crate) fn add_records(
         (length records.now ≤ 262144) × (longs.old ≡ replicate (cells One) 0) ×
         (shorts.old ≡ replicate (cells One) 0) }
     ensures value { result ≡ records_good contracts.now accounts.now records.now }
-    ensures longs_after { result ≡ true → (longs.new ≡ long_to contracts.now accounts.now
+    ensures sums_after { result ≡ true → (longs.new ≡ long_to contracts.now accounts.now
         records.now (record_count records.now)) × (shorts.new ≡ short_to
         contracts.now accounts.now records.now (record_count
         records.now)) }

@@ -9,7 +9,7 @@ use Rattle.posting.proofs.head.put_head.Reads as put_head
 use Rattle.posting.proofs.fresh.fresh_as.Reads as fresh_as
 use Rattle.posting.proofs.raise.is_later_year.Reads as is_later_year
 use Rattle.posting.proofs.raise.next_total.Reads as next_total
-use Rattle.posting.proofs.raise.place_in.Reads as IsPlace-in
+use Rattle.posting.proofs.raise.place_in.Reads as place_in
 use Rattle.posting.proofs.raise.raise_group.Reads as raise_group
 
 pub put_head_unique : (κs : _) (a : _) (r₁ r₂ : _) (s₁ s₂ : _)
@@ -29,7 +29,7 @@ pub next_total_unique : (κs : _) (a : _) (r₁ r₂ : ℕ) (s₁ s₂ : _)
 next_total_unique κs a r₁ r₂ s₁ s₂ p q = p ∙ sym q
 
 pub place_in_unique : (κs : _) (a : _) (r₁ r₂ : ℕ) (s₁ s₂ : _)
-    → IsPlace-in.Post κs a r₁ s₁ → IsPlace-in.Post κs a r₂ s₂ → r₁ ≡ r₂
+    → place_in.Post κs a r₁ s₁ → place_in.Post κs a r₂ s₂ → r₁ ≡ r₂
 place_in_unique κs a r₁ r₂ s₁ s₂ p q = p ∙ sym q
 
 pub raise_group_unique : (κs : _) (a : _) (r₁ r₂ : _) (s₁ s₂ : _)

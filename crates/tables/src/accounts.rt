@@ -89,8 +89,8 @@ fn halving(part: &[u8], number: u32) -> usize
 // The account's entry as a part of the table, or an empty part where there is none. In a table that is not in order,
 // it is what halving comes to.
 pub fn find_account(part: &[u8], number: u32) -> &[u8]
-    ensures result_value { result.now ≡ found_account part.now number }
-    ensures result_value_2 { accounts_good part.now ≡ true → result.now ≡ account_entry part.now number }
+    ensures by_halving { result.now ≡ found_account part.now number }
+    ensures in_order { accounts_good part.now ≡ true → result.now ≡ account_entry part.now number }
 {
     if part.len() < 8 {
         return &part[0..0];

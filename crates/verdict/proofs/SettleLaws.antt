@@ -36,10 +36,10 @@ found_most v = count_le (offends v) (ladders v.shape.kinds)
 
 module _ (shape : Shape) (rulebook : ℕ) (places ids members : List ℕ) where
   -- the findings are counted by the places alone
-  pub found_in : found_in shape.kinds places (length ids / 2)
+  pub found_in_lem : found_in shape.kinds places (length ids / 2)
       ≡ found_count (verdict_in shape rulebook places ids members)
   unfolding found_in found_count verdict_in offends
-  found_in = refl
+  found_in_lem = refl
 
   pub book_written : (date : ℕ) (book b₁ b₂ : List ℕ) (later : Bool) → later ≡ later_year book date
       → length book ≡ book_size shape.kinds
@@ -80,7 +80,7 @@ module _ (shape : Shape) (rulebook : ℕ) (places ids members : List ℕ) where
     pub settle_short : length out < 8 * n → SettleGives v date book out (Refused 20) book out
     unfolding short_fault
     settle_short h =
-        refused _ 20 (pick_yes _ _ _ _ (lt-ltb (length out) (8 * found_count v) (omega (arith, counted, found_in)))
+        refused _ 20 (pick_yes _ _ _ _ (lt-ltb (length out) (8 * found_count v) (omega (arith, counted, found_in_lem)))
         refl ∙ sym fault_is) (λ z. absurd (omega arith))
 
     pub settle_done : {b o : List ℕ} → 8 * n ≤ length out → b ≡ book_after v date book
@@ -89,6 +89,6 @@ module _ (shape : Shape) (rulebook : ℕ) (places ids members : List ℕ) where
     unfolding short_fault
     settle_done h p q =
         done _ (fault_is
-        ∙ sym (pick_no _ _ _ _ (le-ltb (length out) (8 * found_count v) (omega (arith, counted, found_in))) refl))
-        (ap Found (counted ∙ found_in))
+        ∙ sym (pick_no _ _ _ _ (le-ltb (length out) (8 * found_count v) (omega (arith, counted, found_in_lem))) refl))
+        (ap Found (counted ∙ found_in_lem))
         (ap₂ (λ x y. (x, y)) p q)

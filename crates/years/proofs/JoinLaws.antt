@@ -3,7 +3,7 @@
 use mathlib.Core.Path.{◌≡◌, refl, sym, ap, ap₂, ◌∙◌, subst}
 use mathlib.Core.Logic.{◌⊎◌, inl, inr}
 use mathlib.Core.Bool.{Bool, true, false, not, ◌&&◌}
-use mathlib.Core.List.{List, []}
+use mathlib.Core.List.{List, ◌∷◌, []}
 use Prim.Native.Nat.{ℕ, ◌+◌, ◌≤◌, ◌<◌, zero-le}
 use native.Mathlib.Omega.{arith}
 use lib.Dec.{leb, ltb, eqb}
@@ -25,13 +25,23 @@ use Rattle.book.proofs.BookLaws.{sound_facts}
 use Rattle.posting.specs.Raise.{later_year, next_total}
 use Rattle.verdict.specs.Verdict.{Verdict, offends, finding, total_after, sanction_at, found_at}
 use Rattle.years.specs.Days.{how_many, WrittenDay, offence_on, offence_days, last_on, carried, total_over}
-use Rattle.years.specs.Written.{Written, more as one_more_day}
+use Rattle.years.specs.Written.{Allowed, Written, more as one_more_day}
 use Rattle.years.specs.Restrictions.{ByRung}
 use Rattle.years.specs.Joined.{Two, Other, VerdictJoined, SameDay, SameDays, none, more, DayJoined, DaysJoined}
 use Rattle.years.specs.Joined.{none as none_joined, more as more_joined, NoFewer}
 use Rattle.years.specs.Laws.{NothingLost}
 use Rattle.years.proofs.TotalLaws.{Ours, OfBook, Kept, kept}
 use Rattle.years.proofs.RestrictLaws.{by_rungs}
+
+-- ---- the last day written, and the book that the days before it leave
+record LastDay (shape : Shape) (from : List ℕ) (d : WrittenDay) (days : List WrittenDay) : Type 0 where
+  book : List ℕ
+  allowed : Allowed shape book d
+  written : Written shape from days book
+
+last_day : {shape : Shape} {from : List ℕ} {d : WrittenDay} {days : List WrittenDay} {book : List ℕ}
+    → Written shape from (d ∷ days) book → LastDay shape from d days
+last_day (one_more_day {book = book} m w) = record { book = book; allowed = m; written = w }
 
 -- ---- what a ladder adds to the findings, by all that it goes by
 module _ (l : ℕ) where
@@ -210,11 +220,13 @@ module _ (a b : ℕ) (two : Two a b) (shape : Shape) (from : List ℕ) (hard : (
             (subst (λ (x : Shape). group_at x.kinds l ≡ a) (sym own) is-a) _ _;
       }
 
-  days_joined : {book book' : List ℕ} {days days' : List WrittenDay} → Written shape from days book
+  days_joined : {days days' : List WrittenDay} {book book' : List ℕ} → Written shape from days book
       → Written shape from days' book' → SameDays a b days days' → DaysJoined a b shape from days days'
   days_joined w w' none = none_joined
-  days_joined (one_more_day m w) (one_more_day m' w') (more j s) =
-      more_joined (day_joined (kept w) (kept w') s m.shaped j) (days_joined w w' s)
+  days_joined w w' (more j s) =
+      let l = last_day w in
+      let l' = last_day w' in
+      more_joined (day_joined (kept l.written) (kept l'.written) s l.allowed.shaped j) (days_joined l.written l'.written s)
 
   -- group g's offences of a kind in a family stay as b's: then b has no fewer days, and so no fewer restrictions
   module _ {book book' : List ℕ} {days days' : List WrittenDay} (k : Kept shape from days book)
@@ -265,7 +277,7 @@ module _ (a b : ℕ) (two : Two a b) (shape : Shape) (from : List ℕ) (hard : (
     row = record {
       first_group = two.first_b;
       last_group = two.last_b;
-      first_kind = i.row.first_kind;
+      least_kind = i.row.least_kind;
       last_kind = i.row.last_kind;
     };
     last_family = i.last_family;

@@ -5,8 +5,8 @@ use Rattle.rules.proofs.KindLaws.{few}
 use Rattle.places.proofs.LadderLaws.{few_first, few_kinds}
 use Rattle.places.proofs.kind_at.Goals as goal
 
-pub TODO-nonzero-rem-place : goal.TODO-nonzero-rem-place
-TODO-nonzero-rem-place c = let f = few c.args.kinds in omega (arith, f.0, c.kinds_in.ensures)
+pub nonzero_rem-place : goal.nonzero_rem-place
+nonzero_rem-place c = let f = few c.args.kinds in omega (arith, f.0, c.kinds_in.ensures)
 
 pub overflow_cast-place : goal.overflow_cast-place
 overflow_cast-place c = let f = few_kinds _ _ (c.args.ladder / 16) c.kinds_in.ensures in omega arith

@@ -23,8 +23,7 @@ pub returns-then-date-last_date : goal.returns-then-date-last_date
 unfolding fits_fault
 returns-then-date-last_date c =
     let a = c.args in
-    let passed = c in
-    let is = sym passed.before.rulebook_of.ensures ∙ passed.if-rulebook_of-rulebook.false in
+    let is = sym c.rulebook_of.ensures ∙ c.if-rulebook_of-rulebook.false in
     let same = eq-eqb (rulebook_of a.book.now) a.rulebook is in
     let late = le-leb a.date (last_date a.book.now) (omega arith) in
     search chain depth 12
@@ -33,8 +32,7 @@ pub returns : goal.returns
 unfolding fits_fault
 returns c =
     let a = c.args in
-    let passed = c in
-    let is = sym passed.before.rulebook_of.ensures ∙ passed.if-rulebook_of-rulebook.false in
+    let is = sym c.rulebook_of.ensures ∙ c.if-rulebook_of-rulebook.false in
     let same = eq-eqb (rulebook_of a.book.now) a.rulebook is in
     let early = lt-leb a.date (last_date a.book.now) (omega arith) in
     search chain depth 12

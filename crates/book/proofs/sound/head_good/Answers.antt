@@ -3,9 +3,6 @@ use Rattle.book.proofs.sound.head_good.Goals as goal
 
 pub returns : goal.returns
 returns c =
-    let zeros = c in
-    let known = zeros.before.before in
-    let marked = known.before.before in
-    head_tests _ _ marked.is_marked.ensures known.before.get8.ensures known.is_rulebook.ensures
-    zeros.before.get16.ensures zeros.get16-2.ensures c.get32.ensures
-    marked.before.get32.ensures c.is_day.ensures
+    head_tests _ _ c.is_marked.ensures c.get8.ensures c.is_rulebook.ensures
+    c.get16.ensures c.get16-2.ensures c.get32.ensures
+    c.get32-date.ensures c.is_day.ensures

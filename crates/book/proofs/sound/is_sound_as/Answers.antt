@@ -1,5 +1,5 @@
 use mathlib.Core.Path.{sym, ap, ap₂, ◌∙◌}
-use Rattle.wire.proofs.ChoiceLaws.{told_yes, told_no}
+use Rattle.wire.proofs.ChoiceLaws.{told}
 use Rattle.calendar.specs.Dates.{day_number}
 use Rattle.book.specs.Sound.{totals_good}
 use Rattle.book.proofs.SoundLaws.{wrong_length, wrong_head, right_head}
@@ -11,14 +11,13 @@ returns-then-b-book_size c = wrong_length _ _ (λ e. c.if-b-book_size.true (e �
 pub returns-then-not-head_good : goal.returns-then-not-head_good
 returns-then-not-head_good c =
     wrong_head _ _ (c.if-b-book_size.false ∙ c.book_size.ensures)
-    (told_no _ _ c.head-good.ensures c.if-not-head_good.true)
+    (told _ _ _ c.head_good.ensures c.if-not-head_good.true)
 
 pub returns : goal.returns
 returns c =
-    let tested = c in
-    let a = tested.before.before.before.before.before.args in
-    right_head _ _ _ (tested.before.before.if1.false ∙ tested.before.before.before.book_size.ensures)
-    (told_yes _ _ tested.before.head-good.ensures tested.if-not-head_good.false)
-    (c.totals-good.ensures
+    let a = c.args in
+    right_head _ _ _ (c.if-b-book_size.false ∙ c.book_size.ensures)
+    (told _ _ _ c.head_good.ensures c.if-not-head_good.false)
+    (c.totals_good.ensures
     ∙ ap₂ (totals_good a.shape.kinds a.b.now) c.get8.ensures
     (c.day_number.ensures ∙ ap day_number c.get32.ensures))

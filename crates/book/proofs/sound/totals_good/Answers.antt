@@ -25,7 +25,7 @@ loop-l-preserved c =
     let a = c.args in
     let l = c.loop-l in (
       search rules,
-      ap₂ (λ x y. x && y) l.invariant.1 (ap₂ leb c.get16.ensures c.most-of.ensures)
+      ap₂ (λ x y. x && y) l.invariant.1 (ap₂ leb c.get16.ensures c.most_of.ensures)
           ∙ every_next (λ k. leb (total_at a.b.now k) (most_of a.rulebook a.day k)) l.l,
     )
 

@@ -12,5 +12,5 @@ returns c =
     let d = c in
     let a = d.args in
     let n : c.count_at.result ≡ get_or a.c.now (cell_for a.kinds a.p a.kind) 0 =
-    c.count_at.ensures ∙ ap (λ (k : ℕ). get_or a.c.now k 0) c.cell-for.ensures in
-    λ i. d.counts-as.ensures i && ltb a.taken (n i)
+    c.count_at.ensures ∙ ap (λ (k : ℕ). get_or a.c.now k 0) c.cell_for.ensures in
+    λ i. d.counts_as.ensures i && ltb a.taken (n i)

@@ -3,4 +3,4 @@ use Rattle.counts.proofs.cells.cell_for.Goals as goal
 
 pub returns : goal.returns
 unfolding cell_for
-returns c = c.cell_of_is.ensures
+returns c = c.cell_of.ensures

@@ -5,4 +5,4 @@ use Rattle.counts.proofs.cells.cells_changed.Goals as goal
 pub returns : goal.returns
 unfolding cells_changed
 returns c = λ i.
-    c.cell-changed.ensures i || c.cell_changed-2.ensures i || c.cell_changed-3.ensures i
+    c.cell_changed.ensures i || c.cell_changed-2.ensures i || c.cell_changed-3.ensures i

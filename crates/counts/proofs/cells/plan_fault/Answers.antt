@@ -12,10 +12,10 @@ pub returns-then-cells_changed : goal.returns-then-cells_changed
 unfolding plan_fault
 returns-then-cells_changed c =
     pick_no _ _ _ _ (lt-leb _ _ c.if-taken-ge1000000.false)
-    (pick_yes _ _ _ _ (told _ _ _ c.cells-changed.ensures c.if-cells_changed.true) refl)
+    (pick_yes _ _ _ _ (told _ _ _ c.cells_changed.ensures c.if-cells_changed.true) refl)
 
 pub returns : goal.returns
 unfolding plan_fault
 returns c =
     pick_no _ _ _ _ (lt-leb _ _ c.if-taken-ge1000000.false)
-    (pick_no _ _ _ _ (told _ _ _ c.cells-changed.ensures c.if-cells_changed.false) refl)
+    (pick_no _ _ _ _ (told _ _ _ c.cells_changed.ensures c.if-cells_changed.false) refl)

@@ -11,14 +11,14 @@ raise_for-requires c =
 pub raise_for-requires-2 : goal.raise_for-requires-2
 raise_for-requires-2 c =
     let s = c in
-    rw c.raise-for.ensures
+    rw c.raise_for.ensures
     (ready_2 s.args.kinds s.args.taken s.args.p s.args.c.now s.requires.0 s.requires.1)
 
 pub raise_for-requires-3 : goal.raise_for-requires-3
 raise_for-requires-3 c =
     let b = c in
     let s = b in
-    rw (b.raise_for-2.ensures, b.raise-for.ensures)
+    rw (b.raise_for-2.ensures, b.raise_for.ensures)
     (ready_3 s.args.kinds s.args.taken s.args.p s.args.c.now s.requires.0 s.requires.1)
 
 pub returns : goal.returns
@@ -29,4 +29,4 @@ returns c =
     let f = e in
     let a = f.args in
     d.raise_for-3.ensures ∙ ap (raised_for a.kinds a.p 3)
-    (e.raise-for2.ensures ∙ ap (raised_for a.kinds a.p 2) f.raise-for.ensures)
+    (e.raise_for-2.ensures ∙ ap (raised_for a.kinds a.p 2) f.raise_for.ensures)

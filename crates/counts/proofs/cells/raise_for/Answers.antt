@@ -20,5 +20,5 @@ returns c =
     let b = c in
     let d = b in
     b.bump.ensures
-    ∙ ap₂ (λ raise cell. bumped raise cell d.args.c.now) d.counts-as.ensures
+    ∙ ap₂ (λ raise cell. bumped raise cell d.args.c.now) d.counts_as-raise.ensures
     b.cell_for-cell.ensures

@@ -9,9 +9,9 @@ returns c =
     let w = c in
     let a = w.args in
     rw (
-      c.is-self-trade.ensures,
-      c.is-frequent-cancel.ensures,
-      c.is-large-cancel.ensures,
+      c.is_self_trade.ensures,
+      c.is_frequent_cancel.ensures,
+      c.is_large_cancel.ensures,
       w.reasons_for-why.ensures,
       self_trade_by_is a.text a.e a.r a.group a.group2,
       frequent_by_is a.text a.e a.r,

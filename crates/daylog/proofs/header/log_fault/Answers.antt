@@ -15,5 +15,5 @@ pub returns : goal.returns
 unfolding log_fault
 returns c =
     let s = c.args.log.now in
-    let e = c.head-fault.ensures ∙ ap (λ h. head_fault h s) c.header_of.ensures in
+    let e = c.head_fault.ensures ∙ ap (λ h. head_fault h s) c.header_of.ensures in
     search chain depth 12

@@ -10,13 +10,11 @@ returns-then-fault-ne0 c = or_first_by _ _ _ c.sizes_fault-fault.ensures c.if-fa
 pub returns-then-tables_changed : goal.returns-then-tables_changed
 unfolding call_fault
 returns-then-tables_changed c =
-    let b = c in
-    or_else_by _ _ _ (sym b.sizes_fault-fault.ensures ∙ b.if-fault-ne0.false)
+    or_else_by _ _ _ (sym c.sizes_fault-fault.ensures ∙ c.if-fault-ne0.false)
     (pick_yes _ _ _ _ (told _ _ _ c.tables_changed.ensures c.if-tables_changed.true) refl)
 
 pub returns : goal.returns
 unfolding call_fault
 returns c =
-    let b = c in
-    or_else_by _ _ _ (sym b.sizes_fault-fault.ensures ∙ b.if-fault-ne0.false)
+    or_else_by _ _ _ (sym c.sizes_fault-fault.ensures ∙ c.if-fault-ne0.false)
     (pick_no _ _ _ _ (told _ _ _ c.tables_changed.ensures c.if-tables_changed.false) refl)

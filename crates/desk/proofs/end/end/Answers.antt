@@ -13,19 +13,13 @@ returns-in_default c = rw c.enum_told-1.given.1 (refused _ 10 refl (λ z. absurd
 
 pub returns-then-fault-ne0 : goal.returns-then-fault-ne0
 unfolding end_fault
-returns-then-fault-ne0 c = rw c.state-1.given.1
+returns-then-fault-ne0 c = rw c.state.given.1
     (refused_first _ _ _ c.lent_fault-fault.ensures c.if-fault-ne0.true)
-
-pub TODO-slice-bounds-places-end : goal.TODO-slice-bounds-places-end
-unfolding most_kinds
-TODO-slice-bounds-places-end c =
-    places_fit c.state-1.given.0.0.head.rulebook
-    _ _ c.kinds_of.ensures c.ladders_in-n.ensures
 
 pub end_with-requires : goal.end_with-requires
 unfolding most_kinds
 end_with-requires c =
-    let s = c.state-1.given in
+    let s = c.state.given in
     let a = c.args in
     let h = handed s.0.0 a.log.now a.row.now a.book.now _
     (sym c.lent_fault-fault.ensures
@@ -49,6 +43,6 @@ end_with-requires c =
 pub returns : goal.returns
 unfolding end_fault
 returns c =
-    rw c.state-1.given.1
+    rw c.state.given.1
     (then_by _ _ (sym
     c.lent_fault-fault.ensures ∙ c.if-fault-ne0.false) c.end_with.ensures)

@@ -1,7 +1,7 @@
 use Rattle.daylog.proofs.LentTables.{lent_short}
 use Rattle.desk.specs.End.{cells_good, cells_fault}
 use Rattle.wire.proofs.PartLaws.{part_of}
-use Rattle.wire.proofs.ChoiceLaws.{pick_yes, pick_no, flip_yes, flip_no, told_yes, told_no}
+use Rattle.wire.proofs.ChoiceLaws.{told, pick_yes, pick_no, flip_yes, flip_no}
 use Prim.Native.Nat.{◌*◌}
 use native.Mathlib.Omega.{arith}
 use mathlib.Core.Path.{refl, ap, ◌∙◌}
@@ -15,7 +15,7 @@ unfolding cells_fault
 returns-then-not-cells_good c =
     let a = c.args in (
       pick_yes _ _ _ _
-          (flip_yes _ (told_no _ _ (c.cells_good_is.ensures
+          (flip_yes _ (told _ _ _ (c.cells_good.ensures
           ∙ ap (λ k. cells_good k a.day.taken a.counts.now) c.kinds_of-kinds.ensures)
           c.if-not-cells_good.true)) refl,
       λ z. absurd (omega arith),
@@ -23,12 +23,12 @@ returns-then-not-cells_good c =
 
 pub judge_day-requires : goal.judge_day-requires
 judge_day-requires c =
-    let s = c in (
-      lent_short s.args.day.head s.args.log.now s.requires.0.most_contracts,
+    (
+      lent_short c.args.day.head c.args.log.now c.requires.0.most_contracts,
       rw
-          c.kinds_of-kinds.ensures s.requires.1,
+          c.kinds_of-kinds.ensures c.requires.1,
       rw
-          c.kinds_of-kinds.ensures s.requires.2,
+          c.kinds_of-kinds.ensures c.requires.2,
     )
 
 pub returns : goal.returns
@@ -36,8 +36,8 @@ unfolding cells_fault
 returns c =
     let a = c.args in (
       pick_no _ _ _ _
-          (flip_no _ (told_yes _ _
-          (c.cells_good_is.ensures
+          (flip_no _ (told _ _ _
+          (c.cells_good.ensures
           ∙ ap (λ k. cells_good k a.day.taken a.counts.now)
           c.kinds_of-kinds.ensures)
           c.if-not-cells_good.false)) refl,
@@ -46,5 +46,5 @@ returns c =
         c.kinds_of-kinds.ensures,
         part_of a.log.now 16 (8 * a.day.head.contracts),
       )
-          at c.judge-day.ensures,
+          at c.judge_day.ensures,
     )

@@ -18,4 +18,4 @@ returns c =
     or_else_by _ _ _ (sym c.call_fault-first.ensures
     ∙ c.if-first-ne0.false)
     (or_else_by _ _ _ (sym c.row_fault-second.ensures ∙ c.if-second-ne0.false)
-    c.book-fault.ensures)
+    c.book_fault.ensures)

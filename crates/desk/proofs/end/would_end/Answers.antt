@@ -14,19 +14,13 @@ returns-in_default c = rw c.enum_told-1.given.1 (answer_refused _ NotFound _ 10 
 
 pub returns-then-fault-ne0 : goal.returns-then-fault-ne0
 unfolding end_fault day_found
-returns-then-fault-ne0 c = rw c.state-1.given.1
+returns-then-fault-ne0 c = rw c.state.given.1
     (answer_first _ NotFound _ _ _ c.lent_fault-fault.ensures c.if-fault-ne0.true)
-
-pub TODO-slice-bounds-places-end : goal.TODO-slice-bounds-places-end
-unfolding most_kinds
-TODO-slice-bounds-places-end c =
-    places_fit c.state-1.given.0.0.head.rulebook _ _
-    c.kinds_of.ensures c.ladders_in-n.ensures
 
 pub find_with-requires : goal.find_with-requires
 unfolding most_kinds
 find_with-requires c =
-    let s = c.state-1.given in
+    let s = c.state.given in
     let a = c.args in
     let h = handed s.0.0 a.log.now a.row.now a.book.now _
     (sym c.lent_fault-fault.ensures
@@ -48,7 +42,7 @@ find_with-requires c =
 pub returns : goal.returns
 unfolding end_fault day_found
 returns c =
-    rw c.state-1.given.1
+    rw c.state.given.1
     (answer_then _ NotFound _ _
     (sym c.lent_fault-fault.ensures
-    ∙ c.if-fault-ne0.false) c.find-with.ensures)
+    ∙ c.if-fault-ne0.false) c.find_with.ensures)

@@ -19,7 +19,7 @@ loop-k-preserved c =
       search rules,
       c.put8.auto.0 ∙ l.invariant.1,
       byte_turn (family_in a.text a.contracts.now) a.fams.now l.fams _ l.k _ l.invariant.2
-          (c.family_of_lem.ensures ∙ ap (λ e. family a.text e.sort e.product)
+          (c.family_of.ensures ∙ ap (λ e. family a.text e.sort e.product)
           c.contract_at-e.ensures)
           c.put8.ensures
           (omega (arith, c.requires)),

@@ -10,16 +10,16 @@ use Rattle.desk.proofs.HandedLaws.{room_opened}
 use Rattle.desk.proofs.open.open.Goals as goal
 
 -- what the call is handed
-abbrev args : tie.After-cells-in → tie.Start
+abbrev args : goal.After-cells_in → goal.Start
 args c = c
 
 -- no refusal
-opens : (c : tie.After-cells-in) → let a = (args c).args in
+opens : (c : goal.After-cells_in) → let a = (args c).args in
     open_fault a.state a.log.now a.book.now (length a.counts.now) ≡ 0
-opens c = let b = c in sym b.would_open-fault.ensures ∙ b.if-fault-ne0.false
+opens c = sym c.would_open-fault.ensures ∙ c.if-fault-ne0.false
 
 -- the cells, by the log's header
-cells_is : (c : tie.After-cells-in) → c.cells_in.result ≡ cells (kinds_for (header_of (args c).args.log.now))
+cells_is : (c : goal.After-cells_in) → c.cells_in.result ≡ cells (kinds_for (header_of (args c).args.log.now))
 cells_is c =
     c.cells_in.ensures ∙ ap (λ k. cells k) c.kinds_of.ensures
     ∙ ap (λ h. cells (kinds_for h)) c.header_of-head.ensures
@@ -35,7 +35,6 @@ zero_first-requires c =
 pub returns : goal.returns
 unfolding zeroed
 returns c =
-    let b = c in
-    let zeroes = ap (λ (n : ℕ). replicate n 0 ++ drop n (args b).args.counts.now) (cells_is b) in
-    rw b.header_of-head.ensures
-    (done _ (opens b) refl (c.zero-first.ensures ∙ zeroes))
+    let zeroes = ap (λ (n : ℕ). replicate n 0 ++ drop n (args c).args.counts.now) (cells_is c) in
+    rw c.header_of-head.ensures
+    (done _ (opens c) refl (c.zero_first.ensures ∙ zeroes))

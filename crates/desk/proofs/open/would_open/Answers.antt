@@ -8,4 +8,4 @@ returns-in_default c = rw c.enum_told-in_default-1.given.1 refl
 
 pub returns : goal.returns
 unfolding open_fault
-returns c = rw c.enum_told-1.given.1 c.handed-fault.ensures
+returns c = rw c.enum_told-1.given.1 c.handed_fault.ensures

@@ -6,10 +6,9 @@ use Rattle.desk.proofs.take.count_record.Goals as goal
 
 pub returns-then-fault-ne0 : goal.returns-then-fault-ne0
 returns-then-fault-ne0 c =
-    let r = c in
-    rw (← r.kinds_of.ensures) (record {
-      answer = answer_refused _ _ _ _ r.raise-fault.ensures.0 c.if-fault-ne0.true;
-      after = r.raise-fault.ensures.1;
+    rw (← c.kinds_of.ensures) (record {
+      answer = answer_refused _ _ _ _ c.raise-fault.ensures.0 c.if-fault-ne0.true;
+      after = c.raise-fault.ensures.1;
     })
 
 pub overflow_add-next : goal.overflow_add-next
@@ -21,8 +20,7 @@ overflow_add-next c = omega (
 
 pub returns : goal.returns
 returns c =
-    let r = c in
-    rw (← r.kinds_of.ensures) (record {
-      answer = answer_done _ _ _ (sym r.raise-fault.ensures.0 ∙ c.if-fault-ne0.false) refl;
-      after = r.raise-fault.ensures.1;
+    rw (← c.kinds_of.ensures) (record {
+      answer = answer_done _ _ _ (sym c.raise-fault.ensures.0 ∙ c.if-fault-ne0.false) refl;
+      after = c.raise-fault.ensures.1;
     })

@@ -13,23 +13,23 @@ use Rattle.desk.proofs.HandedLaws.{held_head}
 use Rattle.desk.proofs.take.take.Goals as goal
 
 -- where the state is known to be open, and what the call is handed
-abbrev state : tie.After-weigh-day → tie.After-state
+abbrev state : goal.After-weigh_day → goal.In-Open-2
 state c = c
 
-abbrev args : tie.After-weigh-day → tie.Start
+abbrev args : goal.After-weigh_day → goal.Start
 args c = (state c).before.before.before.before.before
 
 -- the open day, its refusal before the counts, and what the record counts for
-abbrev day : tie.After-weigh-day → Day
+abbrev day : goal.After-weigh_day → Day
 day c = (state c).state.given.0.0
 
-abbrev fault : tie.After-weigh-day → ℕ
+abbrev fault : goal.After-weigh_day → ℕ
 fault c = held_fault (day c) (args c).args.log.now (args c).args.row.now (length (args c).args.counts.now)
 
-abbrev plan : tie.After-weigh-day → Plan
+abbrev plan : goal.After-weigh_day → Plan
 plan c = plan_in (args c).args.log.now (args c).args.row.now
 
-abbrev why : tie.After-weigh-day → Reasons
+abbrev why : goal.After-weigh_day → Reasons
 why c = reasons_in (args c).args.log.now (args c).args.row.now
 
 pub returns-in_default : goal.returns-in_default
@@ -39,16 +39,12 @@ returns-in_default c = rw c.enum_told-1.given.1 (refused _ 10 refl (λ z. omega 
 pub returns-in-Refused : goal.returns-in-Refused
 unfolding take_fault day_fault day_weighed
 returns-in-Refused c =
-    let w = c in
-    let j = weighed_no (fault w) (plan w) (why w) _ (sym c.fault-1.given.1 ∙ w.weigh-day.ensures) in
-    rw (state w).state.given.1 (refused_first _ _ _ j.0 j.1)
+    let j = weighed_no (fault c) (plan c) (why c) _ (sym c.fault-1.given.1 ∙ c.weigh_day.ensures) in
+    rw (state c).state.given.1 (refused_first _ _ _ j.0 j.1)
 
 pub returns-in-Counts : goal.returns-in-Counts
 unfolding take_fault day_fault day_weighed
 returns-in-Counts c =
-    let m = c in
-    let p = m in
-    let w = p in
-    let j = weighed_yes (fault w) (plan w) (why w) _ _ (sym p.p.given.1 ∙ w.weigh-day.ensures) in
-    rw (state w).state.given.1
-    (then_by _ _ j.0 (rw (← held_head (day w) _ _ _ j.0, ← j.1, ← j.2) m.count-record.ensures))
+    let j = weighed_yes (fault c) (plan c) (why c) _ _ (sym c.p-1.given.1 ∙ c.weigh_day.ensures) in
+    rw (state c).state.given.1
+    (then_by _ _ j.0 (rw (← held_head (day c) _ _ _ j.0, ← j.1, ← j.2) c.count_record.ensures))

@@ -11,5 +11,4 @@ returns-then-fault-ne0 c = answer_first _ _ _ _ _ c.sizes_fault-fault.ensures c.
 pub returns : goal.returns
 unfolding day_weighed held_fault weighed_on
 returns c =
-    let b = c in
-    answer_then _ _ _ _ (sym b.sizes_fault-fault.ensures ∙ b.if-fault-ne0.false) c.weigh.ensures
+    answer_then _ _ _ _ (sym c.sizes_fault-fault.ensures ∙ c.if-fault-ne0.false) c.weigh.ensures

@@ -12,27 +12,26 @@ use Rattle.desk.specs.Take.{held_fault, day_fault, take_fault, would_take, day_w
 use Rattle.desk.proofs.take.would_take.Goals as goal
 
 -- where the state is known to be open; the refusal before the counts, and what the record counts for
-abbrev state : tie.After-weigh-day → tie.After-state
+abbrev state : goal.After-weigh_day-weighed → goal.In-Open-2
 state c = c
 
-abbrev fault : tie.After-weigh-day → ℕ
+abbrev fault : goal.After-weigh_day-weighed → ℕ
 fault c =
     let a = (state c).before.before.before.before.before.args in
     held_fault (state c).state.given.0.0 a.log.now a.row.now (length a.counts.now)
 
-abbrev plan : tie.After-weigh-day → Plan
+abbrev plan : goal.After-weigh_day-weighed → Plan
 plan c = let a = (state c).before.before.before.before.before.args in plan_in a.log.now a.row.now
 
-abbrev why : tie.After-weigh-day → Reasons
+abbrev why : goal.After-weigh_day-weighed → Reasons
 why c = let a = (state c).before.before.before.before.before.args in reasons_in a.log.now a.row.now
 
 -- no refusal before the counts, and plan and clauses are the record's
-counts : (c : tie.After-weighed) → let w = c in (fault w ≡ 0) × (c.weighed-1.given.0.0 ≡ plan w)
-    × (c.weighed-1.given.0.1.0 ≡ why w)
+counts : (c : goal.In-Counts-2) → (fault c ≡ 0) × (c.weighed-1.given.0.0 ≡ plan c)
+    × (c.weighed-1.given.0.1.0 ≡ why c)
 unfolding day_weighed
 counts c =
-    let w = c in
-    weighed_yes (fault w) (plan w) (why w) _ _ (sym c.weighed-1.given.1 ∙ w.weigh_day-weighed.ensures)
+    weighed_yes (fault c) (plan c) (why c) _ _ (sym c.weighed-1.given.1 ∙ c.weigh_day-weighed.ensures)
 
 pub returns-in_default : goal.returns-in_default
 unfolding would_take take_fault
@@ -41,28 +40,23 @@ returns-in_default c = rw c.enum_told-1.given.1 (answer_refused _ _ 10 10 refl (
 pub returns-in_default-weighed : goal.returns-in_default-weighed
 unfolding would_take take_fault day_fault day_weighed
 returns-in_default-weighed c =
-    let w = c in
     let told = c.enum_told-in_default-weighed-1.given.1 in
-    let j = weighed_no (fault w) (plan w) (why w) _ (sym told ∙ w.weigh_day-weighed.ensures) in
-    rw (state w).state.given.1 (told ∙ answer_first _ _ _ _ _ j.0 j.1)
+    let j = weighed_no (fault c) (plan c) (why c) _ (sym told ∙ c.weigh_day-weighed.ensures) in
+    rw (state c).state.given.1 (told ∙ answer_first _ _ _ _ _ j.0 j.1)
 
 pub returns-then-fault-ne0 : goal.returns-then-fault-ne0
 unfolding would_take take_fault day_fault
 returns-then-fault-ne0 c =
-    let f = c in
-    let p = f in
-    let j = counts p in
-    rw (state p).state.given.1
+    let j = counts c in
+    rw (state c).state.given.1
     (answer_then _ _ _ _ j.0
-    (answer_refused _ _ _ _ (rw (f.kinds_of.ensures, j.1) at f.plan_fault-fault.ensures) c.if-fault-ne0.true))
+    (answer_refused _ _ _ _ (rw (c.kinds_of.ensures, j.1) at c.plan_fault-fault.ensures) c.if-fault-ne0.true))
 
 pub returns : goal.returns
 unfolding would_take take_fault day_fault
 returns c =
-    let f = c in
-    let p = f in
-    let j = counts p in
-    rw (state p).state.given.1
+    let j = counts c in
+    rw (state c).state.given.1
     (answer_then _ _ _ _ j.0
-    (answer_done _ _ _ (sym (rw (f.kinds_of.ensures, j.1) at f.plan_fault-fault.ensures) ∙ c.if-fault-ne0.false)
+    (answer_done _ _ _ (sym (rw (c.kinds_of.ensures, j.1) at c.plan_fault-fault.ensures) ∙ c.if-fault-ne0.false)
     (ap₂ Counts j.1 j.2)))

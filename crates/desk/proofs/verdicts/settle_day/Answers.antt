@@ -27,12 +27,10 @@ on-tables h log places book out e =
 
 pub settle_with-requires : goal.settle_with-requires
 settle_with-requires c =
-    let s = c in
-    let e = lent_entries s.args.h s.args.log.now s.requires.whole in
+    let e = lent_entries c.args.h c.args.log.now c.requires.whole in
     (search rules, refl)
 
 pub returns : goal.returns
 returns c =
-    let d = c in
-    let a = d.args in
-    on-tables a.h a.log.now a.places.now a.book.now a.out.now d.settle-with.ensures
+    let a = c.args in
+    on-tables a.h a.log.now a.places.now a.book.now a.out.now c.settle_with.ensures

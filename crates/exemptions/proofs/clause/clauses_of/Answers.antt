@@ -1,24 +1,24 @@
 use Prim.Native.Nat.{◌+◌, ◌<◌}
 use native.Mathlib.Omega.{arith}
-use Rattle.wire.proofs.ChoiceLaws.{told_yes, told_no}
+use Rattle.wire.proofs.ChoiceLaws.{told}
 use Rattle.exemptions.specs.Sheet.{entries}
 use Rattle.exemptions.proofs.SheetLaws.{in_lists, kinds_below, kinds_looked_up, kinds_unlisted}
 use Rattle.exemptions.proofs.clause.clauses_of.Goals as goal
 
 -- the order's codes for the first kind are on the table's lists, so all three places are the table's
-below : (c : tie.After-place-of) → c.place_of-at.result + 48 < entries
+below : (c : goal.After-place_of-at) → c.place_of-at.result + 48 < entries
 below c =
     let l =
-    kinds_below _ _ _ _ (told_yes _ _ c.is-listed.ensures c.if-not-is_listed.false) in
+    kinds_below _ _ _ _ (told _ _ _ c.is_listed.ensures c.if-not-is_listed.false) in
     let p = c.place_of-at.ensures in
     omega arith
 
 pub returns-then-not-is_listed : goal.returns-then-not-is_listed
-returns-then-not-is_listed c = kinds_unlisted _ _ _ _ (told_no _ _ c.is-listed.ensures c.if-not-is_listed.true)
+returns-then-not-is_listed c = kinds_unlisted _ _ _ _ (told _ _ _ c.is_listed.ensures c.if-not-is_listed.true)
 
 pub place_of-at-requires : goal.place_of-at-requires
 place_of-at-requires c =
-    let l = in_lists _ (told_yes _ _ c.is-listed.ensures c.if-not-is_listed.false) in
+    let l = in_lists _ (told _ _ _ c.is_listed.ensures c.if-not-is_listed.false) in
     (l.rulebook.0, l.sort.0, l.kind.0, l.instruction.0, l.purpose.0)
 
 pub bounds-table-at : goal.bounds-table-at
@@ -38,5 +38,5 @@ bounds-table-at-3 c = let b = below c in omega arith
 
 pub returns : goal.returns
 returns c =
-    let l = told_yes _ _ c.is-listed.ensures c.if-not-is_listed.false in
+    let l = told _ _ _ c.is_listed.ensures c.if-not-is_listed.false in
     kinds_looked_up _ _ _ _ c.sheet-table.result _ c.sheet-table.ensures l c.place_of-at.ensures

@@ -31,5 +31,5 @@ returns c =
     let a = c.args in
     on-tables a.h a.log.now a.longs.now a.shorts.now
     c.text_of.ensures
-    c.add-sizes.ensures
-    c.judge-with.ensures
+    c.add_sizes.ensures
+    c.judge_with.ensures

@@ -31,5 +31,5 @@ pub returns : goal.returns
 returns c =
     let a = c.args in
     on-tables a.h a.log.now a.book.now a.out.now
-    c.judge-places.ensures
-    c.settle-with.ensures
+    c.judge_places.ensures
+    c.settle_with.ensures

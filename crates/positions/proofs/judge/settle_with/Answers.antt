@@ -4,6 +4,6 @@ pub returns : goal.returns
 returns c =
     rw (
       c.position_shape.ensures,
-      c.fill-ids.ensures,
+      c.fill_ids.ensures,
     ) at
     c.settle.ensures

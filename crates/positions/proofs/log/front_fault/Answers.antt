@@ -14,14 +14,14 @@ returns-then-not-is_marked c = search chain depth 12
 pub returns-then-not-head_good : goal.returns-then-not-head_good
 unfolding front_fault
 returns-then-not-head_good c =
-    let e = c.head-good.ensures ∙ ap (λ h. head_good h) c.header_of-h.ensures in
+    let e = c.head_good.ensures ∙ ap (λ h. head_good h) c.header_of-h.ensures in
     search chain depth 12
 
 pub returns : goal.returns
 unfolding front_fault
 returns c =
     let s = c.args.log.now in
-    let e = c.head-good.ensures ∙ ap (λ h. head_good h)
+    let e = c.head_good.ensures ∙ ap (λ h. head_good h)
     c.header_of-h.ensures in
-    let f = c.tables-fault.ensures ∙ ap (λ h. tables_fault h s) c.header_of-h.ensures in
+    let f = c.tables_fault.ensures ∙ ap (λ h. tables_fault h s) c.header_of-h.ensures in
     search chain depth 12

@@ -1,6 +1,7 @@
 use mathlib.Core.Path.{sym, ◌∙◌}
 use native.Mathlib.Omega.{arith}
-use borrow.Author.Tests.{not-false}
+use borrow.Author.Rules.{rules}
+use Rattle.wire.proofs.ChoiceLaws.{flip_yes, flip_no}
 use Rattle.positions.proofs.ReadLaws.{front_refused, front_good, few_limits, good_accounts, few_records}
 use Rattle.positions.proofs.ReadLaws.{long_is}
 use Rattle.positions.proofs.ReadLaws.{short_is, records_refused, records_pass}
@@ -9,28 +10,31 @@ use Rattle.positions.proofs.log.read_log.Goals as goal
 pub returns-then-fault-ne0 : goal.returns-then-fault-ne0
 returns-then-fault-ne0 c =
     let a = c.args in
-    (front_refused a.log.now _ c.front_fault-fault.ensures c.if-fault-ne0.true, λ z. absurd (c.if-fault-ne0.true z))
+    record {
+      value = front_refused a.log.now _ c.front_fault-fault.ensures c.if-fault-ne0.true;
+      sums_after = λ z. absurd (c.if-fault-ne0.true z);
+    }
 
-pub TODO-slice-bounds-add-records-end : goal.TODO-slice-bounds-add-records-end
-TODO-slice-bounds-add-records-end c =
-    let q = front_good c.args.log.now _
-    c.header_of-h.ensures (sym c.front_fault-fault.ensures ∙ c.if-fault-ne0.false) in
-    omega (arith, q.whole)
+pub slice_bounds-add_records-end : goal.slice_bounds-add_records-end
+slice_bounds-add_records-end c =
+    let q = front_good c.args.log.now _ c.header_of-h.ensures (sym c.front_fault-fault.ensures ∙ c.if-fault-ne0.false) in
+    let w = q.whole in
+    search rules
 
-pub TODO-slice-bounds-add-records-end-2 : goal.TODO-slice-bounds-add-records-end-2
-TODO-slice-bounds-add-records-end-2 c =
-    let q = front_good c.args.log.now _
-    c.header_of-h.ensures (sym c.front_fault-fault.ensures ∙ c.if-fault-ne0.false) in
-    omega (arith, q.whole)
+pub slice_bounds-add_records-end-2 : goal.slice_bounds-add_records-end-2
+slice_bounds-add_records-end-2 c =
+    let q = front_good c.args.log.now _ c.header_of-h.ensures (sym c.front_fault-fault.ensures ∙ c.if-fault-ne0.false) in
+    let w = q.whole in
+    search rules
+
+pub slice_bounds-add_records-start-3 : goal.slice_bounds-add_records-start-3
+slice_bounds-add_records-start-3 c =
+    let q = front_good c.args.log.now _ c.header_of-h.ensures (sym c.front_fault-fault.ensures ∙ c.if-fault-ne0.false) in
+    let w = q.whole in
+    search rules
 
 pub slice_bounds-add_records-count-3 : goal.slice_bounds-add_records-count-3
 slice_bounds-add_records-count-3 c =
-    let q = front_good c.args.log.now _ c.header_of-h.ensures
-    (sym c.front_fault-fault.ensures ∙ c.if-fault-ne0.false) in
-    omega (arith, q.whole)
-
-pub TODO-slice-bounds-add-records-start-3 : goal.TODO-slice-bounds-add-records-start-3
-TODO-slice-bounds-add-records-start-3 c =
     let q = front_good c.args.log.now _ c.header_of-h.ensures
     (sym c.front_fault-fault.ensures ∙ c.if-fault-ne0.false) in
     omega (arith, q.whole)
@@ -46,18 +50,20 @@ add_records-requires c =
 
 pub returns-then-not-add_records : goal.returns-then-not-add_records
 returns-then-not-add_records c =
-    let s = c.args.log.now in (
-      records_refused s _ c.header_of-h.ensures (sym c.front_fault-fault.ensures ∙ c.if-fault-ne0.false)
-          c.add-records.ensures.0
-          c.if-not-add_records.true,
-      λ z. absurd (omega arith),
-    )
+    let s = c.args.log.now in
+    record {
+      value = records_refused s _ c.header_of-h.ensures (sym c.front_fault-fault.ensures ∙ c.if-fault-ne0.false)
+          c.add_records.ensures.value (flip_yes _ c.if-not-add_records.true);
+      sums_after = λ z. absurd (omega arith);
+    }
 
 pub returns : goal.returns
 returns c =
     let s = c.args.log.now in
     let e = c.header_of-h.ensures in
     let f = sym c.front_fault-fault.ensures ∙ c.if-fault-ne0.false in
-    let g = c.add-records.ensures in
-    let sums = g.1 (not-false _ c.if-not-add_records.false) in
-    (records_pass s _ e f g.0 c.if-not-add_records.false, λ z. (long_is s _ e f sums.0, short_is s _ e f sums.1))
+    let sums = c.add_records.ensures.sums_after c.if-not-add_records.false in
+    record {
+      value = records_pass s _ e f c.add_records.ensures.value (flip_no _ c.if-not-add_records.false);
+      sums_after = λ z. (long_is s _ e f sums.0, short_is s _ e f sums.1);
+    }

@@ -17,9 +17,9 @@ loop-k-preserved c =
     let a = c.args in
     let l = c.loop-k in (
       search rules,
-      c.put8.auto.0 ∙ l.invariant.1,
+      c.put8.auto.s ∙ l.invariant.1,
       byte_turn (family_in a.text a.contracts.now) a.fams.now l.fams _ l.k _ l.invariant.2
-          (c.family_of_lem.ensures ∙ ap (λ e. family a.text e.sort e.product)
+          (c.family_of.ensures ∙ ap (λ e. family a.text e.sort e.product)
           c.limited_at-e.ensures)
           c.put8.ensures
           (omega (arith, c.requires)),

@@ -20,7 +20,7 @@ loop-k-preserved c =
     let a = c.args in
     let l = c.loop-k in (
       search rules,
-      c.put16.auto.0 ∙ l.invariant.1,
+      c.put16.auto.s ∙ l.invariant.1,
       pair_turn (λ j. (limited_at a.contracts.now j).id) a.ids.now l.ids _ 0 (2 * l.k) l.k l.invariant.2
           (omega arith)
           (c.put16.ensures ∙ ap (λ n. put_in l.ids (2 * l.k) (bytes 2 n))

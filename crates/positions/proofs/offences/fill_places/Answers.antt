@@ -35,7 +35,7 @@ loop-l-preserved c =
     let a = c.args in
     let l = c.loop-l in (
       search rules,
-      c.put8.auto.0 ∙ l.invariant.1,
+      c.put8.auto.s ∙ l.invariant.1,
       byte_turn (place_at a.text a.contracts.now a.fams.now a.longs.now a.shorts.now a.sizes.now)
           a.places.now l.places _ l.l _ l.invariant.2
           c.place_at-place.ensures.0 c.put8.ensures

@@ -20,12 +20,12 @@ returns-then-is_over_at c =
     let a = c.args in
     let l = c.loop-c in
     over_here a.text a.contracts.now a.fams.now a.longs.now a.shorts.now a.ladder l.c
-    (omega arith) l.invariant.1 (sym c.is-over-at.ensures ∙ c.if-is_over_at.true)
+    (omega arith) l.invariant.1 (sym c.is_over_at.ensures ∙ c.if-is_over_at.true)
 
 pub loop-c-preserved : goal.loop-c-preserved
 loop-c-preserved c =
     let l = c.loop-c in
-    (omega arith, below_more _ l.c l.invariant.1 (sym c.is-over-at.ensures ∙ c.if-is_over_at.false))
+    (omega arith, below_more _ l.c l.invariant.1 (sym c.is_over_at.ensures ∙ c.if-is_over_at.false))
 
 pub returns : goal.returns
 returns c =

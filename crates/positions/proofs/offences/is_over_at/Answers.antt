@@ -37,4 +37,4 @@ pub returns : goal.returns
 returns c =
     let a = c.args in
     over_is a.text a.contracts.now a.fams.now a.longs.now a.shorts.now a.ladder a.c _
-    c.if-fams-c.false c.is-over-either.ensures
+    c.if-fams-c.false c.is_over_either.ensures

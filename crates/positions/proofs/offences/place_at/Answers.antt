@@ -26,4 +26,4 @@ returns-then-sizes-ladder-lt2 c = (pick_yes _ _ _ _ (lt-ltb _ 2 c.if-sizes-ladde
 pub returns : goal.returns
 unfolding place_at
 returns c =
-    (pick_no _ _ _ _ (le-ltb _ 2 c.if-sizes-ladder-lt2.false) c.first-over.ensures.0, c.first-over.ensures.1)
+    (pick_no _ _ _ _ (le-ltb _ 2 c.if-sizes-ladder-lt2.false) c.first_over.ensures.0, c.first_over.ensures.1)

@@ -8,14 +8,11 @@ use Rattle.tables.specs.Accounts.{account_at}
 use Rattle.positions.specs.Way.{added_in, sizes_in}
 use Rattle.positions.proofs.SumLaws.{summed_none, summed_more, summed_most}
 use borrow.Author.Rules.{rules}
-use Rattle.positions.proofs.sums.add_sizes.Invariants.{sizesTo}
+use Rattle.positions.proofs.sums.add_sizes.Invariants.{groups_of, sizes_to}
 use Rattle.positions.proofs.sums.add_sizes.Goals as goal
 
-abbrev groups_of : List ℕ → ℕ → ℕ
-groups_of accounts k = (account_at accounts k).group
-
-sizes-most : (accounts : List ℕ) (n i : ℕ) {s : List ℕ} → s ≡ sizesTo accounts n → get_or s i 0 ≤ 4294967295 * n
-sizes-most accounts n i e = rw e (summed_most 129 (groups_of accounts) (λ k. 1) (λ k. omega arith) n i)
+sizes_most : (accounts : List ℕ) (n i : ℕ) {s : List ℕ} → s ≡ sizes_to accounts n → get_or s i 0 ≤ 4294967295 * n
+sizes_most accounts n i e = rw e (summed_most 129 (groups_of accounts) (λ k. 1) (λ k. omega arith) n i)
 
 pub loop-k-init : goal.loop-k-init
 loop-k-init c = (search rules, refl, c.requires.1 ∙ sym (summed_none 129 _ _))
@@ -26,7 +23,7 @@ add-requires c =
     let l = c.loop-k in
     omega (
       arith,
-      sizes-most a.accounts.now l.k c.get8-group.result l.invariant.2,
+      sizes_most a.accounts.now l.k c.get8-group.result l.invariant.2,
       c.requires.0,
     )
 
@@ -36,7 +33,7 @@ loop-k-preserved c =
     let a = c.args in
     let l = c.loop-k in (
       search rules,
-      c.add.auto.0 ∙ l.invariant.1,
+      c.add.auto.c ∙ l.invariant.1,
       c.add.ensures
           ∙ ap₂ (λ s g. added_in s g 1) l.invariant.2 c.get8-group.ensures
           ∙ summed_more 129 (groups_of a.accounts.now) (λ k. 1) l.k,
@@ -48,4 +45,4 @@ returns c =
     let a = c.args in
     let l = c.loop-k in
     let e : l.k ≡ entries a.accounts.now = omega arith in
-    l.invariant.2 ∙ ap (sizesTo a.accounts.now) e
+    l.invariant.2 ∙ ap (sizes_to a.accounts.now) e

@@ -15,15 +15,12 @@ overflow_cast-rulebook c =
 
 pub zero_totals-requires : goal.zero_totals-requires
 zero_totals-requires c =
-    let passed = c in
-    let q = made _ _ _ (sym passed.before.fresh-fault.ensures ∙ passed.if-fault-ne0.false) in
+    let q = made _ _ _ (sym c.fresh_fault-fault.ensures ∙ c.if-fault-ne0.false) in
     omega (arith, q.long)
 
 pub returns : goal.returns
 returns c =
-    let headed = c in
-    let passed = headed.before.before in
-    let none = sym passed.before.fresh-fault.ensures ∙ passed.if1.false in
+    let none = sym c.fresh_fault-fault.ensures ∙ c.if-fault-ne0.false in
     let long = (made _ _ _ none).long in
     done _ none refl
-    (fresh_written _ _ _ _ _ long headed.put_head.ensures c.zero-totals.ensures)
+    (fresh_written _ _ _ _ _ long c.put_head.ensures c.zero_totals.ensures)

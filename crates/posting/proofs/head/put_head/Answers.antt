@@ -11,4 +11,4 @@ pub returns : goal.returns
 returns c =
     let a = c.args in
     head_fitting a.b.now a.letter a.rulebook a.date _ (omega arith)
-    c.store-head.ensures
+    c.store_head.ensures

@@ -13,14 +13,12 @@ loop-j-init c = (search rules, search rules, no_rows _ _ _)
 
 pub loop-j-preserved : goal.loop-j-preserved
 loop-j-preserved c =
-    let read = c in
-    let placed = read.before.before in
-    let l = placed.before.before.loop in
-    let a = placed.before.before.before.before.before.args in (
+    let l = c.loop-j in
+    let a = c.args in (
       search rules,
       search rules,
       raise_turn a.part.now a.later a.places.now a.from a.contracts l.part _ l.j _ _ _
-          l.invariant.2 placed.IsPlace-in.ensures read.get16-total.ensures
+          l.invariant.2 c.place_in.ensures c.get16-total.ensures
           c.next_total.ensures c.put16.ensures (omega arith),
     )
 

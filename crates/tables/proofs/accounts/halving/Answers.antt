@@ -5,6 +5,7 @@ use Rattle.tables.specs.Accounts.{account_at}
 use Rattle.tables.specs.Way.{halved}
 use Rattle.tables.proofs.Search.{next, next_up, next_stay, next_le, halve_end, halve_turn}
 use Rattle.tables.proofs.accounts.halving.Goals as goal
+use Rattle.tables.proofs.accounts.halving.Goals.{then-word-number, else-word-number}
 
 pub loop-size-init : goal.loop-size-init
 unfolding halved
@@ -34,7 +35,10 @@ loop-size-preserved c =
     let a = c.args in
     let l = c.loop-size in
     let e : c.if-word-number.from ≡ next a.part.now a.number l.from l.size =
-    ⊎_elim (λ w. w.1 ∙ next_up _ _ _ _ (omega arith)) (λ w. w.1 ∙ next_stay _ _ _ _ (omega arith)) c.if-word-number.branch in
+    elim c.if-word-number.branch [
+        then-word-number w ↦ w.from-is ∙ next_up _ _ _ _ (omega arith)
+      | else-word-number w ↦ w.from-is ∙ next_stay _ _ _ _ (omega arith)
+    ] in
     rw e (
       omega arith,
       omega (arith, next_le a.part.now a.number l.from l.size),

@@ -25,7 +25,7 @@ loop-l-preserved c =
       omega arith,
       omega arith,
       ap₂ (λ x y. x + y) l.invariant.2 (c.one_if-n.ensures.0 ∙ ap (λ p. pick (ltb p a.contracts) 1 0)
-          c.IsPlace-in.ensures)
+          c.place_in.ensures)
           ∙ sym (count_more (hit_at a.places.now a.contracts) l.l),
     )
 

@@ -38,10 +38,10 @@ loop-l-preserved c =
     let s = c.args in
     let l = c.loop-l in (
       search rules,
-      c.list_one-n.auto.0 ∙ l.invariant.1,
-      found_more _ l.l l.invariant.2 c.list_one-n.ensures.0,
+      c.list_one-n.auto.out ∙ l.invariant.1,
+      found_more _ l.l l.invariant.2 c.list_one-n.ensures.value,
       found_turn _ s.date s.book.now s.out.now _ _ l.n l.l l.invariant.2 l.invariant.3
-          c.list_one-n.ensures.1,
+          c.list_one-n.ensures.out_after,
     )
 
 pub returns : goal.returns

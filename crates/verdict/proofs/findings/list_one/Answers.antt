@@ -14,25 +14,22 @@ overflow_add-ladder c =
 
 pub put_finding-requires : goal.put_finding-requires
 put_finding-requires c =
-    let tested = c in
-    let a = tested.before.before.before.before.before.before.before in
-    let hit = place_hit _ _ _ _ _ _ tested.before.IsPlace-in.ensures tested.if-place-ids.true in
-    (room_yes _ _ _ hit a.requires.1, a.requires.0)
+    let hit = place_hit _ _ _ _ _ _ c.place_in-place.ensures c.if-place-ids.true in
+    (room_yes _ _ _ hit c.requires.1, c.requires.0)
 
 pub returns-then-place-ids : goal.returns-then-place-ids
 returns-then-place-ids c =
-    let given = c in
-    let read = given.before.before.before.before in
-    let is = read.before.before.before.IsPlace-in.ensures in
-    let hit = read.before.before.if1.true in (
-      more_yes _ _ (place_hit _ _ _ _ _ _ is hit),
-      finding_here _ _ _ _ _ _ _ _ _ _ is hit read.before.is_later_year.ensures read.get16.ensures
-          given.before.before.before.next_total.ensures given.before.before.sanction-for.ensures
-          given.get16-then-place-ids.ensures c.put-finding.ensures,
-    )
+    let is = c.place_in-place.ensures in
+    let hit = c.if-place-ids.true in
+    record {
+      value = more_yes _ _ (place_hit _ _ _ _ _ _ is hit);
+      out_after = finding_here _ _ _ _ _ _ _ _ _ _ is hit c.is_later_year-later.ensures c.get16.ensures
+          c.next_total-total.ensures c.sanction_for-sanction.ensures
+          c.get16-then-place-ids.ensures c.put_finding.ensures;
+    }
 
 pub returns : goal.returns
-returns c = (
-  more_no _ _ (place_none _ _ _ _ _ _ c.IsPlace-in.ensures c.if-place-ids.false),
-  finding_none _ _ _ _ _ _ _ _ _ _ c.IsPlace-in.ensures c.if-place-ids.false,
-)
+returns c = record {
+  value = more_no _ _ (place_none _ _ _ _ _ _ c.place_in-place.ensures c.if-place-ids.false);
+  out_after = finding_none _ _ _ _ _ _ _ _ _ _ c.place_in-place.ensures c.if-place-ids.false;
+}

@@ -1,4 +1,4 @@
-use Rattle.verdict.proofs.SettleLaws.{found_most, found_in, settle_short, settle_done}
+use Rattle.verdict.proofs.SettleLaws.{found_most, found_in_lem, settle_short, settle_done}
 use Rattle.verdict.specs.Settle.{settle_fault}
 use Rattle.verdict.specs.Verdict.{verdict_in}
 use Rattle.rules.proofs.KindLaws.{few}
@@ -24,7 +24,7 @@ overflow_mul-found c =
       few a.shape.kinds,
       found_most (verdict_in a.shape a.rulebook a.places.now a.ids.now
           a.members.now),
-      found_in a.shape a.rulebook a.places.now a.ids.now
+      found_in_lem a.shape a.rulebook a.places.now a.ids.now
           a.members.now,
       c.count_found-found.ensures,
     )
@@ -43,7 +43,7 @@ write_day-requires c =
       omega (
         arith,
         c.count_found-found.ensures,
-        found_in a.shape a.rulebook
+        found_in_lem a.shape a.rulebook
             a.places.now a.ids.now a.members.now,
       ),
     )
@@ -56,5 +56,5 @@ returns c =
     ∙ c.book_size.ensures)
     c.count_found-found.ensures
     c.if-out-found.false
-    c.write-day.ensures.0
-    c.write-day.ensures.1
+    c.write_day.ensures.book_after
+    c.write_day.ensures.out_after

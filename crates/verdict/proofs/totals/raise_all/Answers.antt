@@ -55,19 +55,12 @@ slice_bounds-raise_group-count c =
     let f = part_fits _ _ _ c.kinds_in-own.ensures c.loop-g-test.true in
     omega arith
 
-pub TODO-slice-bounds-raise-group-end : goal.TODO-slice-bounds-raise-group-end
-TODO-slice-bounds-raise-group-end c =
-    let f = part_fits _ _ _ c.kinds_in-own.ensures c.loop-g-test.true in
-    search rules
-
 pub loop-g-preserved : goal.loop-g-preserved
 loop-g-preserved c =
-    let tested = c in
-    let l = tested.before.loop in
-    let s = tested.before.before.before.before.before in
-    let a = s.args in
-    let n = tested.before.before.kinds_in.ensures in
-    let f = next_fits a.kinds _ l.g _ n tested.loop-g-test.true s.requires in
+    let l = c.loop-g in
+    let a = c.args in
+    let n = c.kinds_in-own.ensures in
+    let f = next_fits a.kinds _ l.g _ n c.loop-g-test.true c.requires in
     let again =
     group_again _ a.later a.places.now a.book.now a.contracts l.book l.g f.0
     l.invariant.1 l.invariant.2 _
@@ -79,14 +72,13 @@ loop-g-preserved c =
 
 pub returns : goal.returns
 returns c =
-    let s = c in
     let l = c.loop-g in
     let e : l.g ≡ 128 = omega arith in
     l.invariant.2
-    ∙ ap (λ n. put s.args.book.now 16
-    (rows (group_bytes (16 * c.kinds_in-own.result) s.args.later s.args.places.now
-    s.args.book.now s.args.contracts) n)) e
-    ∙ ap (put s.args.book.now 16)
-    (all_groups (16 * c.kinds_in-own.result) s.args.later s.args.places.now
-    s.args.book.now s.args.contracts (ladders s.args.kinds)
+    ∙ ap (λ n. put c.args.book.now 16
+    (rows (group_bytes (16 * c.kinds_in-own.result) c.args.later c.args.places.now
+    c.args.book.now c.args.contracts) n)) e
+    ∙ ap (put c.args.book.now 16)
+    (all_groups (16 * c.kinds_in-own.result) c.args.later c.args.places.now
+    c.args.book.now c.args.contracts (ladders c.args.kinds)
     (omega (arith, c.kinds_in-own.ensures)))

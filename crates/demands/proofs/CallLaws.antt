@@ -114,14 +114,14 @@ no_record_fault log rs row e =
     (pick_zero _ 1 _ (lit< tt) e).1).0
 
 module _ (log c book out : List ℕ) (rs : List Record) (row : List ℕ) (a : Agrees log rs c) where
-  abbrev take_is : ℕ
-  take_is = take_number log rs row
+  abbrev taking_number : ℕ
+  taking_number = take_number log rs row
 
   -- what taking gives, by whether the fault is 0
   abbrev taking : Bool → Given
   taking t =
       let counts = raised (kinds_for (header_of log)) (plan_in log row) c in
-      let a = pick t (TakeDone (Open (one_more (day_in log rs))) (reasons_in log row)) (TakeRefused take_is) in
+      let a = pick t (TakeDone (Open (one_more (day_in log rs))) (reasons_in log row)) (TakeRefused taking_number) in
       record { reply = took a; after = desk_of (take_state (Open (day_in log rs)) a) log (pick t counts c) book out }
 
   -- and what the paper says
@@ -130,39 +130,39 @@ module _ (log c book out : List ℕ) (rs : List Record) (row : List ℕ) (a : Ag
       let after = Open (record { head = header_of log; taken = length rs + 1 }) in
       let old = paper (during log rs) book out (length c) in
       let new = paper (during log (record_of row ∷ rs)) book out (length c) in
-      record { reply = took (pick t (TakeDone after (reasons_in log row)) (TakeRefused take_is)); after = pick t new old }
+      record { reply = took (pick t (TakeDone after (reasons_in log row)) (TakeRefused taking_number)); after = pick t new old }
 
-  take_step : Same (taking (eqb take_is 0)) (take_ruled (paper (during log rs) book out (length c)) log rs row take_is)
+  take_step : Same (taking (eqb taking_number 0)) (take_ruled (paper (during log rs) book out (length c)) log rs row taking_number)
   unfolding take_ruled answered pick
-  take_step = go (eqb take_is 0) refl
+  take_step = go (eqb taking_number 0) refl
     where
-      go : (t : Bool) → eqb take_is 0 ≡ t → Same (taking t) (taken t)
+      go : (t : Bool) → eqb taking_number 0 ≡ t → Same (taking t) (taken t)
       go true e =
           let r = record_of row in
-          let f = no_record_fault log rs row (eqb-true take_is 0 e) in
+          let f = no_record_fault log rs row (eqb-true taking_number 0 e) in
           record { reply = refl; after = rw add-one (busy (raised_room log rs c r a f) (agrees_take log rs c r a f)) }
       go false e = record { reply = refl; after = busy refl a }
 
 -- ---- a day ended
 module _ (log c book out : List ℕ) (rs : List Record) (row : List ℕ) (a : Agrees log rs c) where
-  abbrev end_is : ℕ
-  end_is = end_refusal log rs row book (length out)
+  abbrev ending_number : ℕ
+  ending_number = end_refusal log rs row book (length out)
 
   -- what ending gives by a verdict, by whether the fault is 0
   abbrev ending : Verdict → Bool → Given
   ending v t =
-      let e = pick t (EndDone Closed (found_count v)) (EndRefused end_is) in
+      let e = pick t (EndDone Closed (found_count v)) (EndRefused ending_number) in
       let buffers = pick t (written v (header_of log).date book out) (book, out) in
       record { reply = ended e; after = desk_of (end_state (Open (day_in log rs)) e) log c buffers.0 buffers.1 }
 
-  end_step : Same (ending (day_verdict (tables_of log) rs) (eqb end_is 0))
-      (end_ruled (paper (during log rs) book out (length c)) log rs end_is)
+  end_step : Same (ending (day_verdict (tables_of log) rs) (eqb ending_number 0))
+      (end_ruled (paper (during log rs) book out (length c)) log rs ending_number)
   unfolding end_ruled answered pick
-  end_step = go (eqb end_is 0)
+  end_step = go (eqb ending_number 0)
     where
       go : (t : Bool) → Same (ending (day_verdict (tables_of log) rs) t)
           (record {
-            reply = ended (pick t (EndDone Closed (found_count (day_verdict (tables_of log) rs))) (EndRefused end_is));
+            reply = ended (pick t (EndDone Closed (found_count (day_verdict (tables_of log) rs))) (EndRefused ending_number));
             after =
                 let buffers = written (day_verdict (tables_of log) rs) (header_of log).date book out in
                 pick t (paper idle buffers.0 buffers.1 (length c)) (paper (during log rs) book out (length c));

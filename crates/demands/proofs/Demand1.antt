@@ -38,6 +38,10 @@ one_given lend_gives lend_gives = refl
 
 pub one_answer : OneAnswer
 one_answer w [] [] [] none none = refl
+one_answer w [] [] (h ∷ hs) _ s = elim s [ ]
+one_answer w [] (g ∷ gs) _ r _ = elim r [ ]
+one_answer w (c ∷ cs) [] _ r _ = elim r [ ]
+one_answer w (c ∷ cs) (g ∷ gs) [] _ s = elim s [ ]
 one_answer w (c ∷ cs) (g ∷ gs) (h ∷ hs) (next m r) (next n s) =
     let e : g ≡ h = one_given m n in
     ap₂ {C = List Given} (λ x xs. x ∷ xs) e

@@ -305,7 +305,9 @@ pub logs_kept : (from : List ℕ) (days : List PastDay) (book : List ℕ) (logs 
     → Ended from (log_days book days logs) (last_file book (ruled_logs book logs))
 unfolding last_file ruled_logs log_days
 logs_kept from days book [] k = k
-logs_kept from days book (log ∷ logs) k = logs_kept from _ (ruled_file book log) logs (log_kept from days book log k)
+logs_kept from days book (log ∷ logs) k =
+    logs_kept from (pick (eqb (log_number book log) 0) (logged_day log ∷ days) days) (ruled_file book log) logs
+    (log_kept from days book log k)
 
 -- the file that a list of logs leaves
 pub file_kept : (book : List ℕ) (logs : List (List ℕ)) (js : List Judged) → sound book ≡ true → JudgesAll book logs js

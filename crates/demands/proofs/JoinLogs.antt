@@ -107,7 +107,10 @@ module _ (a b : ℕ) (two : Two a b) where
   unfolding ruled_logs log_days last_file
   files from from' days days' book book' [] s = record { numbers = refl; years = s }
   files from from' days days' book book' (log ∷ logs) s =
-      let r = files from from' _ _ _ _ logs (log_years from from' days days' book book' s log) in
+      let r = files from from' (pick (eqb (log_number book log) 0) (logged_day log ∷ days) days)
+      (pick (eqb (log_number book' (join_log a b log)) 0) (logged_day (join_log a b log) ∷ days') days')
+      (ruled_file book log) (ruled_file book' (join_log a b log)) logs
+      (log_years from from' days days' book book' s log) in
       record {
         numbers = ap₂ {C = List ℕ} (λ x xs. x ∷ xs) (number_same from from' days days' book book' s log)
             r.numbers;

@@ -327,9 +327,13 @@ module _ (a b : ℕ) (two : Two a b) where
       → Fits p p' cs → full_room ≤ length p'.out → all_roomy cs' ≡ true → Runs p p' h h' last last' cs cs'
   unfolding numbers_on rules paper_after history last_opened all_roomy
   runs p p' h h' last last' [] _ s t none f l m = record { numbers = refl; after = s; opened = t }
+  runs p p' h h' last last' (c ∷ cs) [] s t j f l m = elim j [ ]
   runs p p' h h' last last' (c ∷ cs) (c' ∷ cs') s t (more j js) f l m =
       let g = again p p' h h' c c' s j (fit_first f) l in
-      let r = runs _ _ _ _ _ _ cs cs' g.after (twin_latest g.after.course t) js (fit_rest c' f)
+      let q = (rule p p.course c).after in
+      let q' = (rule p' p'.course c').after in
+      let r = runs q q' (recorded p p.course c h) (recorded p' p'.course c' h') (latest q.course last)
+      (latest q'.course last') cs cs' g.after (twin_latest g.after.course t) js (fit_rest c' f)
       (full_out p' p'.course c' l (and_left (roomy c') (all_roomy cs') m))
       (and_right (roomy c') (all_roomy cs') m) in
       record {

@@ -105,12 +105,12 @@ module _ (day : Day) (log c : List ℕ) (e : day.head ≡ header_of log) (good :
       sym (or_else_lem (cells_fault (kinds_on (tables_of log)) day.taken c) _
       (rw (← kinds_are day.head log c e good) none))
 
-  pub ended_by : (book out : List ℕ) → length book ≡ book_size (kinds_for day.head) → {a : Settled} {b o : List ℕ} →
+  pub ended_by_lem : (book out : List ℕ) → length book ≡ book_size (kinds_for day.head) → {a : Settled} {b o : List ℕ} →
       SettleGives (day_bytes day.head log c e good) day.head.date book out a b o
       → DayEnds (counts_fault day (tables_of log) c (length out)) day.head.date (tables_of log) book c out
       (ended_by a) b o
   unfolding verdict_on day_shape
-  ended_by book out long g =
+  ended_by_lem book out long g =
       rw (
         ← room_decides (length out),
         ← long_fault (cell_verdict (tables_of log) c) book out

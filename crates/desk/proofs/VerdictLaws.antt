@@ -6,12 +6,11 @@ use Prim.Native.Nat.{ℕ, ◌+◌, ◌-◌, ◌*◌, ◌/◌, ◌<◌, ◌≤◌
 use native.Mathlib.Omega.{arith}
 use borrow.Author.Tests.{lt-ltb}
 use lib.Dec.{eqb}
-use lib.ListN.{length, get_or, take, drop, length-take, length-drop}
+use lib.ListN.{length, get_or, drop, length-take, length-drop}
 use lib.Seq.{get_or-drop}
 use Rattle.wire.specs.Choice.{pick}
 use Rattle.wire.specs.Below.{first}
 use Rattle.wire.specs.Bytes.{le, bytes}
-use Rattle.wire.specs.Buffers.{rows}
 use Rattle.wire.proofs.ChoiceLaws.{pick_yes}
 use Rattle.wire.proofs.BelowLaws.{first_cong}
 use Rattle.wire.proofs.ByteLaws.{bytes_length, pair_low}

@@ -25,7 +25,8 @@ families_in text contracts = rows (λ k. family_in text contracts k ∷ []) (ent
 
 -- the lowest place that reached a ladder's number, by the families; and for every ladder, a byte a ladder
 unfoldable pub place_at : Text → Kinds → (fams c : List ℕ) → ℕ → ℕ
-place_at text kinds fams c ladder = lowest (λ k. get_or fams k 0) (length fams) text kinds (in_cells kinds c ladder) ladder
+place_at text kinds fams c ladder =
+    lowest (λ k. get_or fams k 0) (length fams) text kinds (in_cells kinds c ladder) ladder
 
 unfoldable pub places_in : Text → Kinds → (fams c : List ℕ) → List ℕ
 places_in text kinds fams c = rows (λ l. place_at text kinds fams c l ∷ []) (ladders kinds)

@@ -137,7 +137,8 @@ reads a b two h h' book book' (log ∷ logs) _ _ s (a_log {g = g} {js = js} m r)
     g.after.book g'.after.book =
     rw (← recorded_is w h log g m, ← recorded_is w' h' (join_log a b log) g' m')
     (beside_step a b two s m m' judges n) in
-    let q = reads a b two _ _ g.after.book g'.after.book logs js js' t r r' in
+    let q = reads a b two (with_log h log (number_in g.reply)) (with_log h' (join_log a b log) (number_in g'.reply))
+    g.after.book g'.after.book logs js js' t r r' in
     record {
       numbered = ap₂ {C = List ℕ} (λ x xs. x ∷ xs)
           (number_named w' (judge_log (join_log a b log)) g' m' ∙ n ∙ sym (number_named w (judge_log log) g m))

@@ -8,8 +8,9 @@ use Rattle.desk.proofs.abandon.abandon.Goals as goal
 
 pub returns-in-Open : goal.returns-in-Open
 unfolding abandon_answer
-returns-in-Open c = rw c.enum_told-1.given.1 (answer_done (Done Closed) Refused 0 refl refl)
+returns-in-Open c = rw c.in-Open.is (answer_done (Done Closed) Refused 0 refl refl)
 
 pub returns-in-Closed : goal.returns-in-Closed
 unfolding abandon_answer
-returns-in-Closed c = rw c.enum_told-in-Closed-1.given.1 (answer_refused (Done Closed) Refused 10 10 refl (λ z. omega arith))
+returns-in-Closed c = rw c.in-Closed.is
+    (answer_refused (Done Closed) Refused 10 10 refl (λ z. omega arith))

@@ -3,7 +3,6 @@ use Rattle.tables.specs.Entries.{entries}
 use Rattle.rules.specs.Ladders.{family}
 use Rattle.wire.proofs.TurnLaws.{byte_turn, bytes_all}
 use Rattle.wire.proofs.BufferLaws.{no_rows}
-use Prim.Native.Nat.{◌-◌}
 use native.Mathlib.Omega.{arith}
 use mathlib.Core.Path.{refl, ap, ◌∙◌}
 use borrow.Author.Rules.{rules}
@@ -17,7 +16,7 @@ loop-k-preserved c =
     let a = c.args in
     let l = c.loop-k in (
       search rules,
-      c.put8.auto.0 ∙ l.invariant.1,
+      c.put8.auto.s ∙ l.invariant.1,
       byte_turn (family_in a.text a.contracts.now) a.fams.now l.fams _ l.k _ l.invariant.2
           (c.family_of.ensures ∙ ap (λ e. family a.text e.sort e.product)
           c.contract_at-e.ensures)

@@ -1,9 +1,7 @@
 use Rattle.desk.specs.Way.{place_at, places_in}
 use Rattle.places.specs.Places.{ladders}
-use Rattle.rules.proofs.KindLaws.{few}
 use Rattle.wire.proofs.TurnLaws.{byte_turn, bytes_all}
 use Rattle.wire.proofs.BufferLaws.{no_rows}
-use Prim.Native.Nat.{◌-◌}
 use native.Mathlib.Omega.{arith}
 use mathlib.Core.Path.{refl, ◌∙◌}
 use borrow.Author.Rules.{rules}
@@ -12,34 +10,12 @@ use Rattle.desk.proofs.ladders.fill_places.Goals as goal
 pub loop-l-init : goal.loop-l-init
 loop-l-init c = (search rules, refl, no_rows _ _ _)
 
-pub place_at-place-requires : goal.place_at-place-requires
-place_at-place-requires c = (
-  c.requires.0,
-  c.requires.1,
-  omega (arith, c.ladders_in-l-end.ensures),
-)
-
-pub overflow_cast-place : goal.overflow_cast-place
-overflow_cast-place c =
-    omega (
-      arith,
-      c.place_at-place.ensures.1,
-      c.requires.0,
-    )
-
-pub overflow_step-l : goal.overflow_step-l
-overflow_step-l c = omega (
-  arith,
-  few c.args.kinds,
-  c.ladders_in-l-end.ensures,
-)
-
 pub loop-l-preserved : goal.loop-l-preserved
 loop-l-preserved c =
     let a = c.args in
     let l = c.loop-l in (
       search rules,
-      c.put8.auto.0 ∙ l.invariant.1,
+      c.put8.auto.s ∙ l.invariant.1,
       byte_turn (place_at a.text a.kinds a.fams.now a.counts.now) a.places.now l.places _ l.l _
           l.invariant.2
           c.place_at-place.ensures.0 c.put8.ensures

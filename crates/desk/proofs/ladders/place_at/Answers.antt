@@ -1,27 +1,17 @@
 use Rattle.desk.proofs.LowestLaws.{place_here, place_nowhere}
-use Rattle.rules.proofs.KindLaws.{few}
 use Rattle.rules.specs.Measure.{enough}
 use lib.Dec.{eqb}
 use lib.ListN.{get_or}
 use borrow.Author.Count.{below_none, below_more}
 use native.Mathlib.Omega.{arith}
-use Prim.Native.Nat.{◌-◌, ◌%◌}
-use mathlib.Core.Bool.{false, ◌&&◌}
+use Prim.Native.Nat.{◌%◌}
+use mathlib.Core.Bool.{◌&&◌}
 use mathlib.Core.Path.{sym, ap, ◌∙◌}
 use borrow.Author.Rules.{rules}
 use Rattle.desk.proofs.ladders.place_at.Goals as goal
 
-pub overflow_mul-from : goal.overflow_mul-from
-overflow_mul-from c = omega (arith, few c.args.kinds)
-
 pub loop-c-init : goal.loop-c-init
 loop-c-init c = (search rules, below_none _)
-
-pub overflow_add-from : goal.overflow_add-from
-overflow_add-from c = omega (arith, few c.args.kinds)
-
-pub offset_bounds-counts-from : goal.offset_bounds-counts-from
-offset_bounds-counts-from c = omega (arith, few c.args.kinds)
 
 pub returns-then-fams-c : goal.returns-then-fams-c
 returns-then-fams-c c =

@@ -4,8 +4,8 @@ use Rattle.desk.proofs.open.would_open.Goals as goal
 
 pub returns-in_default : goal.returns-in_default
 unfolding open_fault
-returns-in_default c = rw c.enum_told-in_default-1.given.1 refl
+returns-in_default c = rw c.in_default.is refl
 
 pub returns : goal.returns
 unfolding open_fault
-returns c = rw c.enum_told-1.given.1 c.handed_fault.ensures
+returns c = rw c.in-Closed.is c.handed_fault.ensures

@@ -1,16 +1,10 @@
 use mathlib.Core.Path.{◌≡◌, ◌∙◌, ap}
 use mathlib.Core.List.{List, ◌++◌}
-use Prim.Native.Nat.{ℕ, ◌-◌}
+use Prim.Native.Nat.{ℕ}
 use native.Mathlib.Omega.{arith}
 use borrow.Author.Fill.{fill_more}
 use lib.ListN.{drop, replicate, set, length-set}
 use Rattle.desk.proofs.open.zero_first.Goals as goal
-
-pub offset_bounds-c-i : goal.offset_bounds-c-i
-offset_bounds-c-i c = omega arith
-
-pub bounds-c-i : goal.bounds-c-i
-bounds-c-i c = omega arith
 
 pub loop-i-preserved : goal.loop-i-preserved
 loop-i-preserved c =

@@ -1,18 +1,9 @@
-use mathlib.Core.Path.{◌≡◌, refl, sym, ◌∙◌, ap}
+use mathlib.Core.Path.{refl, sym, ◌∙◌, ap}
 use borrow.Author.Tests.{lt-ltb, le-ltb, eq-eqb, ne_eqb}
 use Rattle.wire.proofs.ChoiceLaws.{pick_yes, pick_no, flip_yes, flip_no}
-use Rattle.places.specs.Places.{cells}
-use Rattle.desk.specs.Open.{kinds_for}
 use Rattle.desk.specs.Take.{sizes_fault}
+use Rattle.places.specs.Places.{cells}
 use Rattle.desk.proofs.take.sizes_fault.Goals as goal
-
--- what the call is handed
-abbrev args : goal.After-cells_in → goal.Start
-args c = c
-
--- the cells, by the day's header
-cells_is : (c : goal.After-cells_in) → c.cells_in.result ≡ cells (kinds_for (args c).args.day.head)
-cells_is c = c.cells_in.ensures ∙ ap (λ k. cells k) c.kinds_of.ensures
 
 pub returns-then-row-record_length : goal.returns-then-row-record_length
 unfolding sizes_fault
@@ -22,11 +13,13 @@ returns-then-row-record_length c =
 pub returns-then-len-cells_in : goal.returns-then-len-cells_in
 unfolding sizes_fault
 returns-then-len-cells_in c =
+    let all = c.cells_in.ensures ∙ ap (λ k. cells k) c.kinds_of.ensures in
     pick_no _ _ _ _ (flip_no _ (eq-eqb _ _ (c.if-row-record_length.false ∙ c.record_length.ensures)))
-    (pick_yes _ _ _ _ (lt-ltb _ _ (rw (cells_is c) at c.if-len-cells_in.true)) refl)
+    (pick_yes _ _ _ _ (lt-ltb _ _ (rw all at c.if-len-cells_in.true)) refl)
 
 pub returns : goal.returns
 unfolding sizes_fault
 returns c =
+    let all = c.cells_in.ensures ∙ ap (λ k. cells k) c.kinds_of.ensures in
     pick_no _ _ _ _ (flip_no _ (eq-eqb _ _ (c.if-row-record_length.false ∙ c.record_length.ensures)))
-    (pick_no _ _ _ _ (le-ltb _ _ (rw (cells_is c) at c.if-len-cells_in.false)) refl)
+    (pick_no _ _ _ _ (le-ltb _ _ (rw all at c.if-len-cells_in.false)) refl)

@@ -6,7 +6,7 @@ use Rattle.wire.proofs.BufferLaws.{no_rows}
 use Rattle.wire.proofs.ByteLaws.{bytes_length}
 use Rattle.wire.specs.Buffers.{put_in}
 use Rattle.wire.specs.Bytes.{bytes}
-use Prim.Native.Nat.{◌-◌, ◌*◌}
+use Prim.Native.Nat.{◌*◌}
 use native.Mathlib.Omega.{arith}
 use mathlib.Core.Path.{refl, ap, ◌∙◌}
 use borrow.Author.Rules.{rules}
@@ -20,7 +20,7 @@ loop-k-preserved c =
     let a = c.args in
     let l = c.loop-k in (
       search rules,
-      c.put16.auto.0 ∙ l.invariant.1,
+      c.put16.auto.s ∙ l.invariant.1,
       pair_turn (λ j. (contract_in a.contracts.now j).id) a.ids.now l.ids _ 0 (2 * l.k) l.k l.invariant.2
           (omega arith)
           (c.put16.ensures ∙ ap (λ e. put_in l.ids (2 * l.k) (bytes 2 e.id))

@@ -1,12 +1,11 @@
 use borrow.Author.Rules.{rules}
 use mathlib.Core.Path.{refl, ap, ◌∙◌}
 use native.Mathlib.Omega.{arith}
-use Prim.Native.Nat.{◌-◌}
 use Rattle.wire.specs.Choice.{pick}
 use Rattle.wire.proofs.BufferLaws.{no_rows}
 use Rattle.wire.proofs.TurnLaws.{byte_turn, bytes_all}
 use Rattle.desk.specs.Way.{members_in}
-use Rattle.desk.proofs.verdicts.fill_members.Invariants.{byteFor}
+use Rattle.desk.proofs.verdicts.fill_members.Invariants.{byte_for}
 use Rattle.desk.proofs.verdicts.fill_members.Goals as goal
 
 pub loop-g-init : goal.loop-g-init
@@ -17,8 +16,8 @@ loop-g-preserved c =
     let a = c.args in
     let l = c.loop-g in (
       search rules,
-      c.put8.auto.0 ∙ l.invariant.1,
-      byte_turn (byteFor a.accounts.now) a.members.now l.members _ l.g _ l.invariant.2
+      c.put8.auto.s ∙ l.invariant.1,
+      byte_turn (byte_for a.accounts.now) a.members.now l.members _ l.g _ l.invariant.2
           (c.flag.ensures ∙ ap (λ b. pick b 1 0)
           c.has_member-member.ensures) c.put8.ensures
           (omega (arith, c.requires)),
@@ -29,5 +28,5 @@ unfolding members_in
 returns c =
     let a = c.args in
     let l = c.loop-g in
-    bytes_all (byteFor a.accounts.now) a.members.now l.members l.g 128 l.invariant.2 (omega arith)
+    bytes_all (byte_for a.accounts.now) a.members.now l.members l.g 128 l.invariant.2 (omega arith)
     c.requires

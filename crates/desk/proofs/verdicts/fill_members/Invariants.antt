@@ -9,12 +9,13 @@ use Rattle.tables.specs.Accounts.{account_at, has_member}
 use Rattle.desk.proofs.verdicts.fill_members.Given as goal
 
 -- the byte of the group after place k
-abbrev pub byteFor : List ℕ → ℕ → ℕ
-byteFor accounts k = pick (has_member (account_at accounts) (entries accounts) (k + 1)) 1 0
+abbrev pub byte_for : List ℕ → ℕ → ℕ
+byte_for accounts k = pick (has_member (account_at accounts) (entries accounts) (k + 1)) 1 0
 
 abbrev pub invariant-loop-g : goal.invariant-loop-g
 invariant-loop-g l =
-    (l.g ≤ 128) × (length l.members ≡ length l.initial.members) × (l.members ≡ put l.initial.members 0 (rows (λ j. byteFor l.accounts j ∷ []) l.g))
+    (l.g ≤ 128) × (length l.members ≡ length l.initial.members)
+    × (l.members ≡ put l.initial.members 0 (rows (λ j. byte_for l.accounts j ∷ []) l.g))
 
 abbrev pub decreases-loop-g : goal.decreases-loop-g
 decreases-loop-g l = 128 - l.g

@@ -81,10 +81,10 @@ pub(crate) fn ended(
 }
 
 // The number of findings, or the refusal.
-pub(crate) fn say_found(name: &[u8], over: Over) {
+pub(crate) fn say_found(rt: &HostRuntime, name: &[u8], over: Over) {
     if over.fault == 0 {
-        crate::say::number(name, over.found as u64);
+        crate::say::number(rt, name, over.found as u64);
     } else {
-        crate::say::fault(name, over.fault);
+        crate::say::fault(rt, name, over.fault);
     }
 }

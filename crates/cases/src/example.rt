@@ -4,38 +4,43 @@ use crate::day::{ended, opened, taken};
 use crate::say;
 use wire::read::{get8, get16, get32};
 
-fn field(n: u64) {
-    say::decimal(n);
-    say::text(b" ");
+fn field(rt: &HostRuntime, n: u64) {
+    say::decimal(rt, n);
+    say::text(rt, b" ");
 }
 
 // group, kind, family, total, sanction, contract
-fn finding(s: &[u8]) {
-    field(get8(s, 0) as u64);
-    field(get8(s, 1) as u64);
-    field(get8(s, 2) as u64);
-    field(get16(s, 4) as u64);
-    field(get8(s, 3) as u64);
-    say::decimal(get16(s, 6) as u64);
-    say::text(b"\n");
+fn finding(rt: &HostRuntime, s: &[u8]) {
+    field(rt, get8(s, 0) as u64);
+    field(rt, get8(s, 1) as u64);
+    field(rt, get8(s, 2) as u64);
+    field(rt, get16(s, 4) as u64);
+    field(rt, get8(s, 3) as u64);
+    say::decimal(rt, get16(s, 6) as u64);
+    say::text(rt, b"\n");
 }
 
 // Of a day with one finding.
-fn lines(log: &[u8; 40], findings: &[u8], found: u64) {
-    say::text(b"AXD ");
-    say::decimal(get32(log, 6) as u64);
+fn lines(rt: &HostRuntime, log: &[u8; 40], findings: &[u8], found: u64) {
+    say::text(rt, b"AXD ");
+    say::decimal(rt, get32(log, 6) as u64);
     if get8(log, 3) == 1 {
-        say::text(b" DCE\n");
+        say::text(rt, b" DCE\n");
     } else {
-        say::text(b" CFX\n");
+        say::text(rt, b" CFX\n");
     }
-    finding(findings);
-    say::text(b"findings ");
-    say::decimal(found);
-    say::text(b"\n");
+    finding(rt, findings);
+    say::text(rt, b"findings ");
+    say::decimal(rt, found);
+    say::text(rt, b"\n");
 }
 
-pub(crate) fn clerk(book: &mut [u8; 12304], counts: &mut [u32; 12288], findings: &mut [u8; 49152]) {
+pub(crate) fn clerk(
+    rt: &HostRuntime,
+    book: &mut [u8; 12304],
+    counts: &mut [u32; 12288],
+    findings: &mut [u8; 49152],
+) {
     past(book, 20240304, 1);
     let t = small_log(20240305, 11);
     let between = trade(101, 11, 12);
@@ -43,6 +48,6 @@ pub(crate) fn clerk(book: &mut [u8; 12304], counts: &mut [u32; 12288], findings:
     let four = taken(opened(&t, book, counts), &t, &between, counts, 4);
     let five = taken(four, &t, &own, counts, 1);
     let over = ended(five, &t, 5, book, counts, findings);
-    say::fault(b"the worked example", over.fault);
-    lines(&t, findings, over.found as u64);
+    say::fault(rt, b"the worked example", over.fault);
+    lines(rt, &t, findings, over.found as u64);
 }

@@ -1,51 +1,53 @@
 // A case's name with what came out.
 use book::ask::Asked;
-use libc::STDOUT_FILENO;
+use itoa::Buffer;
+use std::io::Print;
 
-pub(crate) fn text(s: &[u8]) {
-    io::write_all(STDOUT_FILENO, s);
+pub(crate) fn text(rt: &HostRuntime, s: &[u8]) {
+    let _ = Print::write_all(rt, s);
 }
 
-pub(crate) fn decimal(n: u64) {
-    io::print_decimal(STDOUT_FILENO, n);
+pub(crate) fn decimal(rt: &HostRuntime, n: u64) {
+    let mut digits = Buffer::new();
+    text(rt, digits.format(n).as_bytes());
 }
 
-pub(crate) fn truth(name: &[u8], answer: bool) {
-    text(name);
+pub(crate) fn truth(rt: &HostRuntime, name: &[u8], answer: bool) {
+    text(rt, name);
     if answer {
-        text(b": yes\n");
+        text(rt, b": yes\n");
     } else {
-        text(b": no\n");
+        text(rt, b": no\n");
     }
 }
 
-pub(crate) fn number(name: &[u8], answer: u64) {
-    text(name);
-    text(b": ");
-    decimal(answer);
-    text(b"\n");
+pub(crate) fn number(rt: &HostRuntime, name: &[u8], answer: u64) {
+    text(rt, name);
+    text(rt, b": ");
+    decimal(rt, answer);
+    text(rt, b"\n");
 }
 
 // `accepted` for 0, or the refusal's number.
-pub(crate) fn fault(name: &[u8], answer: u32) {
-    text(name);
+pub(crate) fn fault(rt: &HostRuntime, name: &[u8], answer: u32) {
+    text(rt, name);
     if answer == 0 {
-        text(b": accepted\n");
+        text(rt, b": accepted\n");
     } else {
-        text(b": refused ");
-        decimal(answer as u64);
-        text(b"\n");
+        text(rt, b": refused ");
+        decimal(rt, answer as u64);
+        text(rt, b"\n");
     }
 }
 
 // The total of group 3 for a kind and family, as the book answers.
-pub(crate) fn total(name: &[u8], book: &[u8], kind: u64, family: u64) {
+pub(crate) fn total(rt: &HostRuntime, name: &[u8], book: &[u8], kind: u64, family: u64) {
     match desk::books::ask(book, 3, kind, family) {
         Asked::Total(n, _) => {
-            number(name, n as u64);
+            number(rt, name, n as u64);
         }
         Asked::Refused(x) => {
-            fault(name, x);
+            fault(rt, name, x);
         }
     }
 }

@@ -21,10 +21,10 @@ pub(crate) enum Outcome {
     Refused(u32),
 }
 
-fn fill_from_input(buf: &mut [u8]) -> Got
+fn fill_from_input(rt: &HostRuntime, buf: &mut [u8]) -> Got
     ensures { result.count ≤ length buf.new }
 {
-    office::input::fill_from_input(b"clerk", buf)
+    office::input::fill_from_input(rt, b"clerk", buf)
 }
 
 // Records passed: the state after them, the place of the first that was not taken, and the refusal's number, 0 for
@@ -70,22 +70,28 @@ fn take_rows(start: State, log: &[u8], rows: &[u8], size: usize, counts: &mut [u
 
 // Whether anything follows an end record of a size, which has `left` bytes from its own first on in its piece. A
 // piece that is not full is the last; after a read that failed nobody can tell, and the log counts as cut off.
-fn is_followed(size: usize, left: usize, piece: Got) -> bool {
-    if (left != size) | piece.failed {
+fn is_followed(rt: &HostRuntime, size: usize, left: usize, piece: Got) -> bool {
+    if (left != size) | piece.failed.is_some() {
         return true;
     }
     if piece.count < PIECE {
         return false;
     }
     let mut one = [0u8; 1];
-    let next = fill_from_input(&mut one);
-    (next.count != 0) | next.failed
+    let next = fill_from_input(rt, &mut one);
+    (next.count != 0) | next.failed.is_some()
 }
 
 // Bytes after the end record are a refusal only where the end itself is accepted.
-fn unless_followed(outcome: Outcome, size: usize, left: usize, piece: Got) -> Outcome {
+fn unless_followed(
+    rt: &HostRuntime,
+    outcome: Outcome,
+    size: usize,
+    left: usize,
+    piece: Got,
+) -> Outcome {
     if let Outcome::Ended(_) = outcome {
-        if is_followed(size, left, piece) {
+        if is_followed(rt, size, left, piece) {
             return Outcome::Refused(LENGTH);
         }
     }
@@ -108,6 +114,7 @@ fn end_day(
 
 // Reads the records piece by piece: the log is never held whole.
 fn take_all(
+    rt: &HostRuntime,
     start: State,
     log: &[u8],
     size: usize,
@@ -120,7 +127,7 @@ fn take_all(
     let mut piece = [0u8; PIECE];
     let mut state = start;
     for _ in 0..TURNS {
-        let got = fill_from_input(&mut piece);
+        let got = fill_from_input(rt, &mut piece);
         let count = got.count;
         let passed = take_rows(state, log, &piece[0..count], size, counts);
         if passed.fault != 0 {
@@ -130,7 +137,7 @@ fn take_all(
         let at = passed.at;
         if size <= count - at {
             let outcome = end_day(state, log, &piece[at..at + size], book, counts, findings);
-            return unless_followed(outcome, size, count - at, got);
+            return unless_followed(rt, outcome, size, count - at, got);
         }
         if count < PIECE {
             return Outcome::Refused(LENGTH);
@@ -140,12 +147,17 @@ fn take_all(
 }
 
 // Opening comes before the records, so a bad book wins over a log that is cut off further on.
-pub(crate) fn judge_day(log: &[u8], book: &mut [u8], findings: &mut [u8]) -> Outcome {
+pub(crate) fn judge_day(
+    rt: &HostRuntime,
+    log: &[u8],
+    book: &mut [u8],
+    findings: &mut [u8],
+) -> Outcome {
     let mut counts = [0u32; MOST_CELLS];
     match desk::open::open(State::Closed, log, book, &mut counts) {
         Answer::Done(state) => {
             let size = record_length(header_of(log).version);
-            take_all(state, log, size, book, &mut counts, findings)
+            take_all(rt, state, log, size, book, &mut counts, findings)
         }
         Answer::Refused(number) => Outcome::Refused(number),
     }

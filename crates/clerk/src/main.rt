@@ -10,14 +10,15 @@ use office::input::{TABLES, read_tables};
 use office::keep::{FILE, read_book};
 use places::MOST_FINDINGS;
 
-fn run(log: &[u8], old: &[u8], book: &mut [u8]) {
+fn run(rt: &HostRuntime, log: &[u8], old: &[u8], book: &mut [u8]) {
     let mut findings = [0u8; MOST_FINDINGS];
-    match day::judge_day(log, book, &mut findings) {
+    match day::judge_day(rt, log, book, &mut findings) {
         Outcome::Refused(number) => {
-            refuse(b"clerk", number);
+            refuse(rt, b"clerk", number);
         }
         Outcome::Ended(found) => {
             finish(
+                rt,
                 b"clerk",
                 b"book.axb",
                 b"AXD ",
@@ -31,11 +32,11 @@ fn run(log: &[u8], old: &[u8], book: &mut [u8]) {
     }
 }
 
-fn main() {
+fn main(rt: HostRuntime) {
     let mut old = [0u8; FILE];
-    let size = read_book(b"clerk", b"book.axb", &mut old);
+    let size = read_book(&rt, b"clerk", b"book.axb", &mut old);
     let mut log = [0u8; TABLES];
-    let end = read_tables(b"clerk", &mut log);
+    let end = read_tables(&rt, b"clerk", &mut log);
     let mut book = old;
-    run(&log[0..end], &old[0..size], &mut book[0..size]);
+    run(&rt, &log[0..end], &old[0..size], &mut book[0..size]);
 }

@@ -1,29 +1,94 @@
 // A file of one's own beside another.
-ghost use Rattle.std.specs.Prelude.{◌≡◌, length};
+ghost use Rattle.std.specs.Prelude.{◌≡◌, ◌≤◌, length};
 
-use crate::known::{Known, known_of};
+use crate::known::{known_of, text_of};
+use std::fs::{File, Metadata, OpenOptions, Permissions};
+use std::io;
+use std::io::ErrorKind;
+use std::os::unix::fs::{MetadataExt, OpenOptionsExt, PermissionsExt, fchown};
+use std::random::RandomSource;
 
-// What fchown takes for an owner that stays.
-const SAME: u32 = 4294967295;
+// What stands in a name for the letters that are made up.
+const BLANKS: &[u8; 6] = b"XXXXXX";
 
-fn is_given(fd: i32, like: Known) -> bool {
-    (libc::fchown(fd, like.owner, like.group) == 0) || (libc::fchown(fd, SAME, like.group) == 0)
+// How many names are tried while each is taken: as many as the letters of three places make.
+const NAMES: u32 = 238328;
+
+// The number of the error that the system has for a name without blanks.
+const EINVAL: i32 = 22;
+
+fn is_given(file: &File, like: &Metadata) -> bool {
+    fchown(file, Some(like.uid()), Some(like.gid())).is_ok()
+        || fchown(file, None, Some(like.gid())).is_ok()
 }
 
-// Makes a file whose name is made up where `name` has XXXXXX at its end, and answers a descriptor, or -1 with errno.
-// It has owner, group and mode of the file `like` where these can be given, and else only its maker can read it.
-pub fn make_beside(name: &mut [u8], like: &[u8]) -> i32
+// Owner, group and mode of another file, where these can be given.
+fn make_like(file: &File, like: &Metadata) {
+    if is_given(file, like) {
+        let _ = file.set_permissions(Permissions::from_mode(like.mode() & 0o777));
+    }
+}
+
+// A digit or a letter.
+fn letter(x: u8) -> u8 {
+    let place = x % 62;
+    if place < 10 {
+        return b'0' + place;
+    }
+    if place < 36 {
+        return b'A' + (place - 10);
+    }
+    b'a' + (place - 36)
+}
+
+fn make_up(rt: &HostRuntime, letters: &mut [u8]) -> io::Result<()> {
+    rt.fill_bytes(letters)?;
+    for x in letters.iter_mut() {
+        *x = letter(*x);
+    }
+    Ok(())
+}
+
+// Only where no file has the name, and only for its maker to read and write.
+fn create(rt: &HostRuntime, name: &[u8]) -> io::Result<File> {
+    let mut how = OpenOptions::new();
+    how.read(true).write(true).create_new(true).mode(0o600);
+    how.open(rt, text_of(name)?)
+}
+
+// Makes the letters from a place on up until they name a file that is new.
+fn create_new(rt: &HostRuntime, name: &mut [u8], at: usize) -> io::Result<File>
+    requires { at ≤ length name.old }
     ensures { length name.new ≡ length name.old }
 {
-    let fd = os::create_temp(name);
-    if fd < 0 {
-        return fd;
-    }
-    let known = known_of(like);
-    if known.mode != 0 {
-        if is_given(fd, known) {
-            libc::fchmod(fd, known.mode & 0o777);
+    let mut why = io::Error::from(ErrorKind::AlreadyExists);
+    for _ in 0..NAMES {
+        make_up(rt, &mut name[at..])?;
+        match create(rt, name) {
+            Ok(file) => return Ok(file),
+            Err(e) => {
+                why = e;
+                if e.kind() != ErrorKind::AlreadyExists {
+                    break;
+                }
+            }
         }
     }
-    fd
+    Err(why)
+}
+
+// Makes a file whose name is made up where `name` has XXXXXX at its end, and answers it, or why it cannot be made. It
+// has owner, group and mode of the file `like` where these can be given, and else only its maker can read it.
+pub fn make_beside(rt: &HostRuntime, name: &mut [u8], like: &[u8]) -> io::Result<File>
+    ensures { length name.new ≡ length name.old }
+{
+    if !name.ends_with(BLANKS) {
+        return Err(io::Error::from_raw_os_error(EINVAL));
+    }
+    let at = name.len() - BLANKS.len();
+    let file = create_new(rt, name, at)?;
+    if let Ok(known) = known_of(rt, like) {
+        make_like(&file, &known);
+    }
+    Ok(file)
 }

@@ -5,7 +5,9 @@
 pub mod beside;
 pub mod input;
 mod known;
+pub mod names;
 pub mod output;
+pub mod said;
 
 // How often a call that a signal cut off is made again before it counts as failed.
 const TRIES: u32 = 1000;

@@ -1,105 +1,134 @@
 // Writing: all of a buffer, and seen on the disk where that is asked for.
-ghost use Rattle.std.specs.Prelude.{true, ◌≡◌, ◌≤◌, length};
-ghost use Rattle.libc.specs.Io.{Status};
+ghost use Rattle.std.specs.Prelude.{◌≡◌, ◌≤◌, length, IsOk};
+ghost use Rattle.files.specs.Status.{Status};
 
 use crate::TRIES;
-use libc::{EINTR, EINVAL, STDOUT_FILENO};
+use crate::input::Got;
+use crate::said::fail;
+use std::fs::File;
+use std::io;
+use std::io::{ErrorKind, Write, writer};
 
-// What a call answers: the kit's own way, so that errno goes with it.
+// What a call answers: the system's own way.
 const DONE: i32 = 0;
 
 const FAILED: i32 = -1;
 
-// One write; where a signal cut it off before a byte went, it is made again. 0 where it failed.
-fn write_some(fd: i32, part: &[u8]) -> usize
-    ensures { result ≤ length part.now }
+// The number of the error of a file system that flushes no folders.
+const EINVAL: i32 = 22;
+
+// One write; where a signal cut it off before a byte went, it is made again. No bytes where it failed.
+fn write_some<W: Write>(to: &mut W, part: &[u8]) -> Got
+    ensures { result.count ≤ length part.now }
 {
+    let mut why = io::Error::from(ErrorKind::Interrupted);
     for _ in 0..TRIES {
-        let put = libc::write(fd, part);
-        if 0 <= put {
-            return io::count(put, part);
-        }
-        if os::errno() != EINTR {
-            break;
+        match to.write(part) {
+            Ok(count) => {
+                return Got {
+                    count,
+                    failed: None,
+                };
+            }
+            Err(e) => {
+                why = e;
+                if e.kind() != ErrorKind::Interrupted {
+                    break;
+                }
+            }
         }
     }
-    0
+    Got {
+        count: 0,
+        failed: Some(why),
+    }
 }
 
-// How many of the bytes went: all, or fewer where a write failed, and then errno says why.
-pub fn put_all(fd: i32, bytes: &[u8]) -> usize
-    ensures { result ≤ length bytes.now }
+// How many of the bytes went: all, or fewer where a write failed, and then why.
+pub fn put_all<W: Write>(to: &mut W, bytes: &[u8]) -> Got
+    ensures { result.count ≤ length bytes.now }
 {
     let mut done = 0;
     while done < bytes.len() {
-        let put = write_some(fd, &bytes[done..]);
-        if put == 0 {
-            break;
+        let put = write_some(to, &bytes[done..]);
+        let count = put.count;
+        if count == 0 {
+            return Got {
+                count: done,
+                failed: put.failed,
+            };
         }
-        done += put;
+        done += count;
     }
-    done
+    Got {
+        count: done,
+        failed: None,
+    }
 }
 
-// Whether standard output took the whole text. None is always taken.
-pub fn put(text: &[u8]) -> bool
-    ensures { length text.now ≡ 0 → result ≡ true }
+// Whether all of the bytes went, and if not, why.
+fn went(put: Got, bytes: &[u8]) -> io::Result<()>
+    ensures { put.count ≡ length bytes.now → IsOk result }
 {
-    put_all(STDOUT_FILENO, text) == text.len()
+    if put.count == bytes.len() {
+        return Ok(());
+    }
+    Err(put.failed.unwrap_or(io::Error::from(ErrorKind::WriteZero)))
 }
 
-fn flush(fd: i32) -> i32
+// Puts the whole text on standard output. None is always taken.
+pub fn put(rt: &HostRuntime, text: &[u8]) -> io::Result<()>
+    ensures { length text.now ≡ 0 → IsOk result }
+{
+    went(put_all(&mut writer(rt), text), text)
+}
+
+// Says the words and why the last call failed.
+fn give_up(rt: &HostRuntime, words: &[u8], why: &io::Error) -> i32
     ensures { Status result }
 {
-    for _ in 0..TRIES {
-        if libc::fsync(fd) == 0 {
-            return DONE;
-        }
-        if os::errno() != EINTR {
-            break;
-        }
-    }
+    fail(rt, words, why);
     FAILED
 }
 
-// Says the words and why the last call failed, and closes the file.
-fn give_up(fd: i32, words: &[u8]) -> i32
-    ensures { Status result }
-{
-    os::fail(words);
-    libc::close(fd);
-    FAILED
+fn write_and_flush(file: &mut File, bytes: &[u8]) -> io::Result<()> {
+    went(put_all(file, bytes), bytes)?;
+    file.sync_all()
 }
 
 // Writes all the bytes, sees them on the disk and closes the file; where a step fails the words are said, and why.
-pub fn store(fd: i32, bytes: &[u8], words: &[u8]) -> i32
+pub fn store(rt: &HostRuntime, mut file: File, bytes: &[u8], words: &[u8]) -> i32
     ensures { Status result }
 {
-    if put_all(fd, bytes) < bytes.len() {
-        return give_up(fd, words);
+    match write_and_flush(&mut file, bytes) {
+        Ok(()) => DONE,
+        Err(e) => give_up(rt, words, &e),
     }
-    if flush(fd) < 0 {
-        return give_up(fd, words);
-    }
-    libc::close(fd);
-    DONE
 }
 
-// Sees on the disk which files the working folder names; where that fails the words are said, and why. A file system
-// that flushes no folders (EINVAL) keeps them by itself.
-pub fn flush_folder(words: &[u8]) -> i32
-    ensures { Status result }
-{
-    let fd = os::open_read(b".");
-    if fd < 0 {
-        os::fail(words);
-        return FAILED;
-    }
-    if flush(fd) < 0 {
-        if os::errno() != EINVAL {
-            return give_up(fd, words);
+// A file system that flushes no folders keeps them by itself.
+fn flush(folder: &File) -> io::Result<()> {
+    match folder.sync_all() {
+        Ok(()) => Ok(()),
+        Err(e) => {
+            if matches!(e.raw_os_error(), Some(EINVAL)) {
+                return Ok(());
+            }
+            Err(e)
         }
     }
-    libc::close(fd);
-    DONE
+}
+
+fn flush_working_folder(rt: &HostRuntime) -> io::Result<()> {
+    flush(&File::open(rt, ".")?)
+}
+
+// Sees on the disk which files the working folder names; where that fails the words are said, and why.
+pub fn flush_folder(rt: &HostRuntime, words: &[u8]) -> i32
+    ensures { Status result }
+{
+    match flush_working_folder(rt) {
+        Ok(()) => DONE,
+        Err(e) => give_up(rt, words, &e),
+    }
 }

@@ -10,7 +10,8 @@ use desk::end::Ended;
 use desk::state::{Answer, Day, State};
 use desk::take::Taken;
 use exemptions::clause::Clauses;
-use libc::STDOUT_FILENO;
+use itoa::Buffer;
+use std::io::Print;
 use wire::write::{put16, put32};
 
 fn put8(t: &mut [u8], at: usize, x: u8) {
@@ -154,27 +155,32 @@ fn step(h: u64, x: u8) -> u64 {
     ((h % 4294967291) * 257 + (x as u64) + 1) % 4294967291
 }
 
-fn say(n: u64, end: &[u8]) {
-    io::print_decimal(STDOUT_FILENO, n);
-    io::write_all(STDOUT_FILENO, end);
+fn write(rt: &HostRuntime, text: &[u8]) {
+    let _ = Print::write_all(rt, text);
 }
 
-fn take_all(t: &[u8], b: &[u8], c: &mut [u32]) {
+fn say(rt: &HostRuntime, n: u64, end: &[u8]) {
+    let mut digits = Buffer::new();
+    write(rt, digits.format(n).as_bytes());
+    write(rt, end);
+}
+
+fn take_all(rt: &HostRuntime, t: &[u8], b: &[u8], c: &mut [u32]) {
     match desk::open::open(State::Closed, t, b, c) {
         Answer::Done(state) => {
             let came = run(state, t, c, 1000000);
-            say(came.fault as u64, b" ");
-            say(total(c), b" ");
-            say(came.clauses, b"\n");
+            say(rt, came.fault as u64, b" ");
+            say(rt, total(c), b" ");
+            say(rt, came.clauses, b"\n");
         }
         Answer::Refused(x) => {
-            say(x as u64, b"\n");
+            say(rt, x as u64, b"\n");
         }
     }
 }
 
 // A day of 500 records by hand, ended: the number of findings, and checksums of findings and book.
-fn end_full(t: &[u8], b: &mut [u8], c: &[u32], out: &mut [u8]) {
+fn end_full(rt: &HostRuntime, t: &[u8], b: &mut [u8], c: &[u32], out: &mut [u8]) {
     let mut row = [0u8; 20];
     put8(&mut row, 0, 3);
     put32(&mut row, 4, 500);
@@ -182,17 +188,17 @@ fn end_full(t: &[u8], b: &mut [u8], c: &[u32], out: &mut [u8]) {
     let state = State::Open(Day { head, taken: 500 });
     match desk::end::end(state, t, &row, b, c, out) {
         Ended::Done(_, n) => {
-            say(n as u64, b" ");
-            say(checksum(out), b" ");
-            say(checksum(b), b"\n");
+            say(rt, n as u64, b" ");
+            say(rt, checksum(out), b" ");
+            say(rt, checksum(b), b"\n");
         }
         Ended::Refused(x) => {
-            say(x as u64, b"\n");
+            say(rt, x as u64, b"\n");
         }
     }
 }
 
-fn main() {
+fn main(rt: HostRuntime) {
     let mut t = [0u8; 4368];
     head(&mut t, 1);
     contracts(&mut t);
@@ -200,10 +206,10 @@ fn main() {
     let mut b = [0u8; 12304];
     let mut c = [0u32; 12288];
     desk::books::fresh(&mut b, 1);
-    take_all(&t, &b, &mut c);
+    take_all(&rt, &t, &b, &mut c);
     head(&mut t, 2);
     desk::books::fresh(&mut b, 2);
     fill_cells(&mut c);
     let mut out = [0u8; 49152];
-    end_full(&t, &mut b, &c, &mut out);
+    end_full(&rt, &t, &mut b, &c, &mut out);
 }

@@ -2,40 +2,44 @@
 // `positions` after it `positions.axq`. It never touches a file that is there.
 #![tactic(auto)]
 
-use check::same;
+use files::names::{create, remove};
 use files::output::{flush_folder, put, store};
-use libc::STDERR_FILENO;
+use files::said::say;
 use office::said::{ROOM, fail, message};
 use places::{MOST_BOOK, book_size};
 use positions::books::BOOK;
 use posting::fresh::NewBook;
 use rules::kinds::kinds_of;
+use std::io;
+use words::asked::{count_words, word_at};
 use words::number::number_in;
 
 // The rulebook that the first word names: one digit and no more. Anything else is 0, which no rulebook has.
-fn rulebook_asked() -> u64 {
+fn rulebook_asked(rt: &HostRuntime) -> u64 {
     let mut word = [0u8; 1];
-    let len = os::arg(1, &mut word);
+    let len = word_at(rt, 1, &mut word);
     number_in(&word[0..len]) as u64
 }
 
-fn is_positions_asked() -> bool {
+fn is_positions_asked(rt: &HostRuntime) -> bool {
     let mut word = [0u8; 9];
-    let len = os::arg(2, &mut word);
-    same(&word[..len], b"positions")
+    let len = word_at(rt, 2, &mut word);
+    &word[..len] == b"positions".as_slice()
 }
 
 // The file is made only where the name is free, so what is taken away after a failure is our own.
-fn make(file: &[u8], book: &[u8]) -> bool {
-    let fd = os::create(file);
-    if fd < 0 {
-        fail(b"newbook", file, b" cannot be made");
-        return false;
-    }
+fn make(rt: &HostRuntime, file: &[u8], book: &[u8]) -> bool {
+    let made = match create(rt, file) {
+        Ok(made) => made,
+        Err(why) => {
+            fail(rt, b"newbook", file, b" cannot be made", &why);
+            return false;
+        }
+    };
     let mut line = [0u8; ROOM];
     let unwritten = message(&mut line, b"newbook", file, b" cannot be written");
-    if store(fd, book, &line[0..unwritten]) < 0 {
-        os::unlink(file);
+    if store(rt, made, book, &line[0..unwritten]) < 0 {
+        remove(rt, file);
         return false;
     }
     let unflushed = message(
@@ -44,65 +48,73 @@ fn make(file: &[u8], book: &[u8]) -> bool {
         file,
         b" is made, its folder cannot be flushed to disk",
     );
-    flush_folder(&line[0..unflushed]);
+    flush_folder(rt, &line[0..unflushed]);
     true
 }
 
-fn tell_made(file: &[u8]) {
-    if !(put(b"made ") && put(file) && put(b"\n")) {
+fn put_made(rt: &HostRuntime, file: &[u8]) -> io::Result<()> {
+    put(rt, b"made ")?;
+    put(rt, file)?;
+    put(rt, b"\n")
+}
+
+fn tell_made(rt: &HostRuntime, file: &[u8]) {
+    if let Err(why) = put_made(rt, file) {
         fail(
+            rt,
             b"newbook",
             file,
             b" is made, standard output cannot be written",
+            &why,
         );
     }
 }
 
-fn tell_usage() {
-    io::write_all(
-        STDERR_FILENO,
+fn tell_usage(rt: &HostRuntime) {
+    say(
+        rt,
         b"usage: newbook 1 (DCE) or newbook 2 (CFFEX bonds), and with the word positions the book of positions\n",
     );
 }
 
 // Makes the file of a book that was made fresh, or says how to ask.
-fn finish(fresh: NewBook, file: &[u8], book: &[u8]) {
+fn finish(rt: &HostRuntime, fresh: NewBook, file: &[u8], book: &[u8]) {
     match fresh {
         NewBook::Made => {
-            if make(file, book) {
-                tell_made(file);
+            if make(rt, file, book) {
+                tell_made(rt, file);
             }
         }
-        NewBook::Refused(_) => tell_usage(),
+        NewBook::Refused(_) => tell_usage(rt),
     }
 }
 
-fn make_in(rulebook: u64, book: &mut [u8]) {
+fn make_in(rt: &HostRuntime, rulebook: u64, book: &mut [u8]) {
     let fresh = desk::books::fresh(book, rulebook);
-    finish(fresh, b"book.axb", book);
+    finish(rt, fresh, b"book.axb", book);
 }
 
-fn make_offences(rulebook: u64) {
+fn make_offences(rt: &HostRuntime, rulebook: u64) {
     let size = book_size(kinds_of(rulebook));
     let mut book = [0u8; MOST_BOOK];
-    make_in(rulebook, &mut book[0..size]);
+    make_in(rt, rulebook, &mut book[0..size]);
 }
 
-fn make_positions(rulebook: u64) {
+fn make_positions(rt: &HostRuntime, rulebook: u64) {
     let mut book = [0u8; BOOK];
     let fresh = positions::books::fresh(&mut book, rulebook);
-    finish(fresh, b"positions.axq", &book);
+    finish(rt, fresh, b"positions.axq", &book);
 }
 
 // The program's own name is counted too.
-fn main() {
-    let rulebook = rulebook_asked();
-    let count = os::arg_count();
+fn main(rt: HostRuntime) {
+    let rulebook = rulebook_asked(&rt);
+    let count = count_words(&rt);
     if count == 2 {
-        make_offences(rulebook);
-    } else if (count == 3) & is_positions_asked() {
-        make_positions(rulebook);
+        make_offences(&rt, rulebook);
+    } else if (count == 3) & is_positions_asked(&rt) {
+        make_positions(&rt, rulebook);
     } else {
-        tell_usage();
+        tell_usage(&rt);
     }
 }

@@ -1,11 +1,12 @@
 // How a clerk's run ends: with the day's findings and the new book, or with a refusal.
 ghost use Rattle.std.specs.Prelude.{◌≤◌, length};
-ghost use Rattle.libc.specs.Io.{Status};
+ghost use Rattle.files.specs.Status.{Status};
 
 use crate::keep::{make_ready, replace};
 use crate::lines::write_count;
 use crate::print::print_day;
 use crate::said::fail;
+use files::names::remove;
 use words::line::add_text;
 
 const FAILED: i32 = -1;
@@ -21,6 +22,7 @@ fn name_beside(name: &mut [u8], file: &[u8]) -> usize
 // The new book is ready, in a file of that name, before the findings go out, and takes the old one's place after them:
 // where they cannot be printed, the day may be run again.
 fn finish_by(
+    rt: &HostRuntime,
     name: &mut [u8],
     who: &[u8],
     file: &[u8],
@@ -33,24 +35,29 @@ fn finish_by(
 ) -> i32
     ensures { Status result }
 {
-    if !make_ready(who, file, name, new) {
+    if !make_ready(rt, who, file, name, new) {
         return FAILED;
     }
-    if !print_day(mark, log, findings, found) {
-        let failed = fail(
-            who,
-            file,
-            b" is left as it was, standard output cannot be written",
-        );
-        os::unlink(name);
-        return failed;
+    match print_day(rt, mark, log, findings, found) {
+        Ok(()) => replace(rt, who, file, name, old, new),
+        Err(why) => {
+            let failed = fail(
+                rt,
+                who,
+                file,
+                b" is left as it was, standard output cannot be written",
+                &why,
+            );
+            remove(rt, name);
+            failed
+        }
     }
-    replace(who, file, name, old, new)
 }
 
 // Prints the day's findings and puts the new book in the old one's place. -1 where something failed, and then it was
 // said.
 pub fn finish(
+    rt: &HostRuntime,
     who: &[u8],
     file: &[u8],
     mark: &[u8],
@@ -65,6 +72,7 @@ pub fn finish(
     let mut name = [0u8; 64];
     let end = name_beside(&mut name, file);
     finish_by(
+        rt,
         &mut name[0..end],
         who,
         file,
@@ -78,8 +86,8 @@ pub fn finish(
 }
 
 // Prints the refusal alone. -1 where that failed, and then it was said.
-pub fn refuse(who: &[u8], number: u32) -> i32
+pub fn refuse(rt: &HostRuntime, who: &[u8], number: u32) -> i32
     ensures { Status result }
 {
-    write_count(who, b"refused ", number as u64)
+    write_count(rt, who, b"refused ", number as u64)
 }

@@ -4,7 +4,6 @@ ghost use Rattle.std.specs.Prelude.{◌≤◌, length};
 use crate::said::fail;
 use daylog::header::header_of;
 use files::input::{Got, fill};
-use libc::STDIN_FILENO;
 
 // The longest header with tables: 32 contracts and 512 accounts.
 pub const TABLES: usize = 4368;
@@ -16,12 +15,12 @@ pub const END: u8 = 3;
 pub const TURNS: u32 = 1000001;
 
 // Standard input that cannot be read counts as cut off there, and the clerk is told why.
-pub fn fill_from_input(who: &[u8], buf: &mut [u8]) -> Got
+pub fn fill_from_input(rt: &HostRuntime, who: &[u8], buf: &mut [u8]) -> Got
     ensures { result.count ≤ length buf.new }
 {
-    let got = fill(STDIN_FILENO, buf);
-    if got.failed {
-        fail(who, b"standard input", b" cannot be read");
+    let got = fill(&mut rt.stdin(), buf);
+    if let Some(why) = &got.failed {
+        fail(rt, who, b"standard input", b" cannot be read", why);
     }
     got
 }
@@ -47,18 +46,18 @@ fn tables_size(head: &[u8]) -> usize
 
 // Reads the header and its tables, as far as they are there, and answers how many bytes came: none into a buffer that
 // has not room for just the longest.
-pub fn read_tables(who: &[u8], log: &mut [u8]) -> usize
+pub fn read_tables(rt: &HostRuntime, who: &[u8], log: &mut [u8]) -> usize
     ensures { result ≤ length log.new }
 {
     if log.len() != TABLES {
         return 0;
     }
-    let head = fill_from_input(who, &mut log[0..16]);
+    let head = fill_from_input(rt, who, &mut log[0..16]);
     let count = head.count;
     if count < 16 {
         return count;
     }
     let end = 16 + tables_size(log);
-    let tables = fill_from_input(who, &mut log[16..end]);
+    let tables = fill_from_input(rt, who, &mut log[16..end]);
     16 + tables.count
 }

@@ -3,6 +3,7 @@ ghost use Rattle.std.specs.Prelude.{◌≤◌, length};
 
 use daylog::header::header_of;
 use files::output::put;
+use std::io;
 use wire::read::{get8, get16};
 use words::codes::add_rulebook;
 use words::line::{add_number, add_text};
@@ -11,22 +12,22 @@ use words::line::{add_number, add_text};
 const LINE: usize = 32;
 
 // A word, a number and the line's end, printed.
-pub(crate) fn print_count(word: &[u8], n: u64) -> bool {
+pub(crate) fn print_count(rt: &HostRuntime, word: &[u8], n: u64) -> io::Result<()> {
     let mut line = [0u8; LINE];
     let at = add_text(&mut line, 0, word);
     let end = add_number(&mut line, at, n, b'\n');
-    put(&line[0..end])
+    put(rt, &line[0..end])
 }
 
 // The mark comes with the space after it. Every log has its rulebook and its date in the same places.
-pub(crate) fn print_heading(mark: &[u8], log: &[u8]) -> bool {
+pub(crate) fn print_heading(rt: &HostRuntime, mark: &[u8], log: &[u8]) -> io::Result<()> {
     let head = header_of(log);
     let mut line = [0u8; LINE];
     let date = add_text(&mut line, 0, mark);
     let exchange = add_number(&mut line, date, head.date as u64, b' ');
     let rest = add_rulebook(&mut line, exchange, head.rulebook);
     let end = add_text(&mut line, rest, b"\n");
-    put(&line[0..end])
+    put(rt, &line[0..end])
 }
 
 // A finding's 8 bytes are group, kind, family, sanction, total and contract; its line names the total before the
@@ -42,29 +43,33 @@ fn add_finding(line: &mut [u8], finding: &[u8]) -> usize
     add_number(line, contract, get16(finding, 6) as u64, b'\n')
 }
 
-fn print_finding(finding: &[u8]) -> bool {
+fn print_finding(rt: &HostRuntime, finding: &[u8]) -> io::Result<()> {
     let mut line = [0u8; LINE];
     let end = add_finding(&mut line, finding);
-    put(&line[0..end])
+    put(rt, &line[0..end])
 }
 
 // The first `found` findings, one line each.
-fn print_findings(findings: &[u8], found: usize) -> bool {
+fn print_findings(rt: &HostRuntime, findings: &[u8], found: usize) -> io::Result<()> {
     for k in 0..findings.len() / 8 {
         if k == found {
             break;
         }
         let at = 8 * k;
-        if !print_finding(&findings[at..at + 8]) {
-            return false;
-        }
+        print_finding(rt, &findings[at..at + 8])?;
     }
-    true
+    Ok(())
 }
 
-// The day's lines. False where standard output does not take them all.
-pub(crate) fn print_day(mark: &[u8], log: &[u8], findings: &[u8], found: usize) -> bool {
-    print_heading(mark, log)
-        && print_findings(findings, found)
-        && print_count(b"findings ", found as u64)
+// The day's lines, or why standard output does not take them all.
+pub(crate) fn print_day(
+    rt: &HostRuntime,
+    mark: &[u8],
+    log: &[u8],
+    findings: &[u8],
+    found: usize,
+) -> io::Result<()> {
+    print_heading(rt, mark, log)?;
+    print_findings(rt, findings, found)?;
+    print_count(rt, b"findings ", found as u64)
 }

@@ -1,8 +1,9 @@
 // What is said on standard error: who says it, what of, and the words after that.
 ghost use Rattle.std.specs.Prelude.{◌≤◌, length};
-ghost use Rattle.libc.specs.Io.{Status};
+ghost use Rattle.files.specs.Status.{Status};
 
-use libc::STDERR_FILENO;
+use files::said::say;
+use std::io;
 use words::line::add_text;
 
 // Room for the longest that a program here says.
@@ -20,22 +21,22 @@ pub fn message(line: &mut [u8], who: &[u8], of: &[u8], words: &[u8]) -> usize
     add_text(line, rest, words)
 }
 
-// Says it with the reason why the last call failed, and answers as that call did.
-pub fn fail(who: &[u8], of: &[u8], words: &[u8]) -> i32
+// Says it with the reason why a call failed, and answers as such a call does.
+pub fn fail(rt: &HostRuntime, who: &[u8], of: &[u8], words: &[u8], why: &io::Error) -> i32
     ensures { Status result }
 {
     let mut line = [0u8; ROOM];
     let end = message(&mut line, who, of, words);
-    os::fail(&line[0..end]);
+    files::said::fail(rt, &line[0..end], why);
     FAILED
 }
 
 // Says it by itself: the words have the line's end. What it tells of went wrong too.
-pub(crate) fn warn(who: &[u8], of: &[u8], words: &[u8]) -> i32
+pub(crate) fn warn(rt: &HostRuntime, who: &[u8], of: &[u8], words: &[u8]) -> i32
     ensures { Status result }
 {
     let mut line = [0u8; ROOM];
     let end = message(&mut line, who, of, words);
-    io::write_all(STDERR_FILENO, &line[0..end]);
+    say(rt, &line[0..end]);
     FAILED
 }

@@ -18,14 +18,15 @@ const FILE: usize = BOOK + 1;
 
 const LOG: usize = MOST_LOG + 1;
 
-fn run(log: &[u8], old: &[u8], book: &mut [u8]) {
+fn run(rt: &HostRuntime, log: &[u8], old: &[u8], book: &mut [u8]) {
     let mut findings = [0u8; FINDINGS];
     match judge(log, book, &mut findings) {
         Settled::Refused(number) => {
-            refuse(b"position_clerk", number);
+            refuse(rt, b"position_clerk", number);
         }
         Settled::Found(found) => {
             finish(
+                rt,
                 b"position_clerk",
                 b"positions.axq",
                 b"AXP ",
@@ -50,15 +51,15 @@ fn room() -> [u8; LOG]
 fn whole(got: Got) -> usize
     ensures { result ≤ got.count }
 {
-    if got.failed { 0 } else { got.count }
+    if got.failed.is_some() { 0 } else { got.count }
 }
 
-fn main() {
+fn main(rt: HostRuntime) {
     let mut old = [0u8; FILE];
-    let size = read_book(b"position_clerk", b"positions.axq", &mut old);
+    let size = read_book(&rt, b"position_clerk", b"positions.axq", &mut old);
     let mut log = room();
-    let got = fill_from_input(b"position_clerk", &mut log);
+    let got = fill_from_input(&rt, b"position_clerk", &mut log);
     let end = whole(got);
     let mut book = old;
-    run(&log[0..end], &old[0..size], &mut book[0..size]);
+    run(&rt, &log[0..end], &old[0..size], &mut book[0..size]);
 }

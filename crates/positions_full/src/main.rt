@@ -2,12 +2,14 @@
 // bench/run times it beside plain Rust; bench/positions.rs says how the log is made and what is printed.
 #![tactic(auto)]
 
-use libc::{STDERR_FILENO, STDOUT_FILENO};
+use itoa::Buffer;
 use positions::books::{BOOK, FINDINGS, fresh};
 use positions::judge::judge;
 use positions::log::MOST_LOG;
+use std::io::Print;
 use verdict::settle::Settled;
 use wire::write::{put8, put16, put32};
+use words::asked::{count_words, word_at};
 use words::number::number_in;
 
 const DATE: u32 = 20240305;
@@ -110,40 +112,45 @@ fn checksum(findings: &[u8], found: usize) -> u64 {
     h
 }
 
-fn say(n: u64, end: &[u8]) {
-    io::print_decimal(STDOUT_FILENO, n);
-    io::write_all(STDOUT_FILENO, end);
+fn write(rt: &HostRuntime, text: &[u8]) {
+    let _ = Print::write_all(rt, text);
 }
 
-fn run(log: &mut [u8], times: u32) {
+fn say(rt: &HostRuntime, n: u64, end: &[u8]) {
+    let mut digits = Buffer::new();
+    write(rt, digits.format(n).as_bytes());
+    write(rt, end);
+}
+
+fn run(rt: &HostRuntime, log: &mut [u8], times: u32) {
     let mut findings = [0u8; FINDINGS];
     match judge_all(log, &mut findings, times) {
         Settled::Found(found) => {
-            say(found as u64, b" ");
-            say(checksum(&findings, found), b"\n");
+            say(rt, found as u64, b" ");
+            say(rt, checksum(&findings, found), b"\n");
         }
         Settled::Refused(number) => {
-            io::write_all(STDOUT_FILENO, b"refused ");
-            say(number as u64, b"\n");
+            write(rt, b"refused ");
+            say(rt, number as u64, b"\n");
         }
     }
 }
 
 // How often to judge: a few times where nothing is said, as the gate runs it under an emulator.
-fn times_asked() -> u32 {
-    if os::arg_count() < 2 {
+fn times_asked(rt: &HostRuntime) -> u32 {
+    if count_words(rt) < 2 {
         return 3;
     }
     let mut word = [0u8; 6];
-    let len = os::arg(1, &mut word);
+    let len = word_at(rt, 1, &mut word);
     number_in(&word[0..len])
 }
 
-fn main() {
-    let times = times_asked();
+fn main(rt: HostRuntime) {
+    let times = times_asked(&rt);
     if (times == 0) | (100000 < times) {
-        io::write_all(
-            STDERR_FILENO,
+        files::said::say(
+            &rt,
             b"usage: positions_full [how often to judge, from 1 to 100000]\n",
         );
         return;
@@ -153,5 +160,5 @@ fn main() {
     contracts(&mut log);
     accounts(&mut log);
     records(&mut log);
-    run(&mut log, times);
+    run(&rt, &mut log, times);
 }

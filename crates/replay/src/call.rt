@@ -6,6 +6,7 @@ use desk::end::Ended;
 use desk::state::{Answer, State};
 use desk::take::Taken;
 use posting::fresh::NewBook;
+use std::io;
 use wire::read::{get8, get32};
 
 pub(crate) fn is_call(one: &[u8]) -> bool {
@@ -127,15 +128,16 @@ fn make(
     }
 }
 
-// The state to keep after a call, and whether its line went out.
+// The state to keep after a call, and whether its line went out, or why not.
 #[derive(Clone, Copy)]
 pub(crate) struct Called {
     pub(crate) state: State,
-    pub(crate) printed: bool,
+    pub(crate) printed: io::Result<()>,
 }
 
 // Makes the call and prints its line.
 pub(crate) fn call(
+    rt: &HostRuntime,
     one: &[u8],
     state: State,
     tables: &[u8],
@@ -148,6 +150,6 @@ pub(crate) fn call(
     let told = m.told;
     Called {
         state: next,
-        printed: print(one, m.fault, next, book, counts, findings, told),
+        printed: print(rt, one, m.fault, next, book, counts, findings, told),
     }
 }

@@ -20,11 +20,11 @@ fn clause_in(one: &[u8]) -> u8 {
     clause_of(text, get8(one, 3), get8(one, 4), get8(one, 5), get8(one, 6))
 }
 
-pub(crate) fn ask(one: &[u8], s: Setup) -> Step
+pub(crate) fn ask(rt: &HostRuntime, one: &[u8], s: Setup) -> Step
     requires { Within s }
     ensures { Within result.setup × (result.used ≡ length one.now) }
 {
     let mut step = changed(one, s);
-    step.printed = print_clause(clause_in(one));
+    step.printed = print_clause(rt, clause_in(one));
     step
 }

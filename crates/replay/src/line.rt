@@ -7,6 +7,8 @@ use counts::weigh::Reasons;
 use daylog::header::Header;
 use desk::state::State;
 use files::output::put;
+use itoa::Buffer;
+use std::io;
 
 // What an accepted call tells besides the state.
 #[derive(Clone, Copy)]
@@ -18,56 +20,66 @@ pub(crate) enum Told {
     Total(u16, u8),
 }
 
-pub(crate) fn bad() -> bool {
-    put(b"bad script\n")
+pub(crate) fn bad(rt: &HostRuntime) -> io::Result<()> {
+    put(rt, b"bad script\n")
 }
 
-fn say(n: u64) -> bool {
-    let mut digits = [0u8; 20];
-    let k = io::decimal(n, &mut digits);
-    put(b" ") && put(&digits[..k])
+fn say(rt: &HostRuntime, n: u64) -> io::Result<()> {
+    let mut digits = Buffer::new();
+    put(rt, b" ")?;
+    put(rt, digits.format(n).as_bytes())
 }
 
 // The exemption test's line.
-pub(crate) fn print_clause(clause: u8) -> bool {
-    put(b"x") && say(clause as u64) && put(b"\n")
+pub(crate) fn print_clause(rt: &HostRuntime, clause: u8) -> io::Result<()> {
+    put(rt, b"x")?;
+    say(rt, clause as u64)?;
+    put(rt, b"\n")
 }
 
-fn say_header(head: Header) -> bool {
-    say(head.rulebook as u64)
-        && say(head.version as u64)
-        && say(head.date as u64)
-        && say(head.contracts as u64)
-        && say(head.accounts as u64)
-        && say(head.spare as u64)
+fn say_header(rt: &HostRuntime, head: Header) -> io::Result<()> {
+    say(rt, head.rulebook as u64)?;
+    say(rt, head.version as u64)?;
+    say(rt, head.date as u64)?;
+    say(rt, head.contracts as u64)?;
+    say(rt, head.accounts as u64)?;
+    say(rt, head.spare as u64)
 }
 
-fn say_state(state: State) -> bool {
+fn say_state(rt: &HostRuntime, state: State) -> io::Result<()> {
     match state {
-        State::Closed => put(b" closed"),
-        State::Open(day) => put(b" open") && say_header(day.head) && say(day.taken as u64),
+        State::Closed => put(rt, b" closed"),
+        State::Open(day) => {
+            put(rt, b" open")?;
+            say_header(rt, day.head)?;
+            say(rt, day.taken as u64)
+        }
     }
 }
 
 // One kind's clauses, of the first order and of the second.
-fn say_both(first: u8, second: u8) -> bool {
-    say(first as u64) && say(second as u64)
+fn say_both(rt: &HostRuntime, first: u8, second: u8) -> io::Result<()> {
+    say(rt, first as u64)?;
+    say(rt, second as u64)
 }
 
-fn say_reasons(why: Reasons) -> bool {
+fn say_reasons(rt: &HostRuntime, why: Reasons) -> io::Result<()> {
     let first = why.first;
     let second = why.second;
-    say_both(first.own, second.own)
-        && say_both(first.frequent, second.frequent)
-        && say_both(first.over, second.over)
+    say_both(rt, first.own, second.own)?;
+    say_both(rt, first.frequent, second.frequent)?;
+    say_both(rt, first.over, second.over)
 }
 
-fn say_told(told: Told) -> bool {
+fn say_told(rt: &HostRuntime, told: Told) -> io::Result<()> {
     match told {
-        Told::Nothing => true,
-        Told::Reasons(why) => say_reasons(why),
-        Told::Findings(n) => say(n as u64),
-        Told::Total(total, rung) => say(total as u64) && say(rung as u64),
+        Told::Nothing => Ok(()),
+        Told::Reasons(why) => say_reasons(rt, why),
+        Told::Findings(n) => say(rt, n as u64),
+        Told::Total(total, rung) => {
+            say(rt, total as u64)?;
+            say(rt, rung as u64)
+        }
     }
 }
 
@@ -107,20 +119,23 @@ fn of_numbers(c: &[u32]) -> u64 {
     h
 }
 
-fn say_sums(book: &[u8], counts: &[u32], findings: &[u8]) -> bool {
-    say(of_bytes(book)) && say(of_numbers(counts)) && say(of_bytes(findings))
+fn say_sums(rt: &HostRuntime, book: &[u8], counts: &[u32], findings: &[u8]) -> io::Result<()> {
+    say(rt, of_bytes(book))?;
+    say(rt, of_numbers(counts))?;
+    say(rt, of_bytes(findings))
 }
 
 // The step's letter.
-fn put_letter(one: &[u8]) -> bool {
+fn put_letter(rt: &HostRuntime, one: &[u8]) -> io::Result<()> {
     if one.len() < 1 {
-        return true;
+        return Ok(());
     }
-    put(&one[0..1])
+    put(rt, &one[0..1])
 }
 
-// Whether the whole line went out.
+// The whole line, or why it did not go out.
 pub(crate) fn print(
+    rt: &HostRuntime,
     one: &[u8],
     fault: u32,
     state: State,
@@ -128,32 +143,43 @@ pub(crate) fn print(
     counts: &[u32],
     findings: &[u8],
     told: Told,
-) -> bool {
-    put_letter(one)
-        && say(fault as u64)
-        && say_state(state)
-        && say_sums(book, counts, findings)
-        && say_told(told)
-        && put(b"\n")
+) -> io::Result<()> {
+    put_letter(rt, one)?;
+    say(rt, fault as u64)?;
+    say_state(rt, state)?;
+    say_sums(rt, book, counts, findings)?;
+    say_told(rt, told)?;
+    put(rt, b"\n")
 }
 
 // The line of a call on the book of positions alone.
-pub(crate) fn print_on_book(one: &[u8], fault: u32, book: &[u8], told: Told) -> bool {
-    put_letter(one) && say(fault as u64) && say(of_bytes(book)) && say_told(told) && put(b"\n")
+pub(crate) fn print_on_book(
+    rt: &HostRuntime,
+    one: &[u8],
+    fault: u32,
+    book: &[u8],
+    told: Told,
+) -> io::Result<()> {
+    put_letter(rt, one)?;
+    say(rt, fault as u64)?;
+    say(rt, of_bytes(book))?;
+    say_told(rt, told)?;
+    put(rt, b"\n")
 }
 
 // The same with the findings buffer.
 pub(crate) fn print_judged(
+    rt: &HostRuntime,
     one: &[u8],
     fault: u32,
     book: &[u8],
     findings: &[u8],
     told: Told,
-) -> bool {
-    put_letter(one)
-        && say(fault as u64)
-        && say(of_bytes(book))
-        && say(of_bytes(findings))
-        && say_told(told)
-        && put(b"\n")
+) -> io::Result<()> {
+    put_letter(rt, one)?;
+    say(rt, fault as u64)?;
+    say(rt, of_bytes(book))?;
+    say(rt, of_bytes(findings))?;
+    say_told(rt, told)?;
+    put(rt, b"\n")
 }

@@ -14,12 +14,14 @@ ghost use Rattle.std.specs.Prelude.{◌≡◌, ◌≤◌, length};
 ghost use Rattle.replay.specs.Within.{Within};
 
 use files::input::fill;
-use libc::STDIN_FILENO;
+use files::said::fail;
 use setup::{Setup, Step};
+use std::io;
 
 // A step of which `one` has all the bytes, or none where it is cut off: one on the book of positions, a call on the
 // parts in use, or a change of the setup. The last 8,000 bytes of the books are the book of positions.
 fn whole_step(
+    rt: &HostRuntime,
     one: &[u8],
     s: Setup,
     counts: &mut [u32],
@@ -32,10 +34,10 @@ fn whole_step(
     ensures { Within result.setup × (result.used ≤ length one.now) }
 {
     if position::is_on_positions(one) {
-        return position::step(one, s, findings, &mut books[20000..28000]);
+        return position::step(rt, one, s, findings, &mut books[20000..28000]);
     }
     if !call::is_call(one) {
-        return setup::change(one, s, counts, findings, books, tables);
+        return setup::change(rt, one, s, counts, findings, books, tables);
     }
     if !call::within_limits(one) {
         return setup::broken(s);
@@ -46,6 +48,7 @@ fn whole_step(
     let b = s.book;
     let t = s.tables;
     let next = call::call(
+        rt,
         one,
         state,
         &tables[0..t],
@@ -58,6 +61,7 @@ fn whole_step(
 
 // The step at the start of `rest`.
 fn step(
+    rt: &HostRuntime,
     rest: &[u8],
     s: Setup,
     counts: &mut [u32],
@@ -70,33 +74,40 @@ fn step(
     ensures { Within result.setup × (result.used ≤ length rest.now) }
 {
     let size = script::step_size(rest);
-    whole_step(&rest[0..size], s, counts, findings, books, tables)
+    whole_step(rt, &rest[0..size], s, counts, findings, books, tables)
 }
 
-fn unprinted() {
-    os::fail(b"replay: standard output cannot be written");
+fn unprinted(rt: &HostRuntime, why: &io::Error) {
+    fail(rt, b"replay: standard output cannot be written", why);
 }
 
-fn bad_script() {
-    if !line::bad() {
-        unprinted();
+fn bad_script(rt: &HostRuntime) {
+    if let Err(why) = line::bad(rt) {
+        unprinted(rt, &why);
     }
 }
 
-fn replay(all: &[u8], counts: &mut [u32], findings: &mut [u8], books: &mut [u8], tables: &mut [u8])
+fn replay(
+    rt: &HostRuntime,
+    all: &[u8],
+    counts: &mut [u32],
+    findings: &mut [u8],
+    books: &mut [u8],
+    tables: &mut [u8],
+)
     requires { (length all.now ≤ 1000000) × (length counts.old ≡ 20000) × (length findings.old ≡ 70000) ×
         (length books.old ≡ 28000) × (length tables.old ≡ 8192) }
 {
     let mut s = setup::start();
     let mut at = 0;
     while at < all.len() {
-        let next = step(&all[at..], s, counts, findings, books, tables);
-        if !next.printed {
-            unprinted();
+        let next = step(rt, &all[at..], s, counts, findings, books, tables);
+        if let Err(why) = &next.printed {
+            unprinted(rt, why);
             return;
         }
         if next.used == 0 {
-            bad_script();
+            bad_script(rt);
             return;
         }
         at += next.used;
@@ -105,16 +116,16 @@ fn replay(all: &[u8], counts: &mut [u32], findings: &mut [u8], books: &mut [u8],
 }
 
 // A script of at most 1,000,000 bytes, on buffers at their largest.
-fn replay_script(all: &[u8]) {
+fn replay_script(rt: &HostRuntime, all: &[u8]) {
     if 1000000 < all.len() {
-        bad_script();
+        bad_script(rt);
         return;
     }
     let mut counts = [0u32; 20000];
     let mut findings = [0u8; 70000];
     let mut books = [0u8; 28000];
     let mut tables = [0u8; 8192];
-    replay(all, &mut counts, &mut findings, &mut books, &mut tables);
+    replay(rt, all, &mut counts, &mut findings, &mut books, &mut tables);
 }
 
 // Room for a script, and for a byte more that shows one too long.
@@ -124,13 +135,13 @@ fn room() -> [u8; 1000001]
     [0; 1000001]
 }
 
-fn main() {
+fn main(rt: HostRuntime) {
     let mut all = room();
-    let got = fill(STDIN_FILENO, &mut all);
-    if got.failed {
-        os::fail(b"replay: standard input cannot be read");
+    let got = fill(&mut rt.stdin(), &mut all);
+    if let Some(why) = &got.failed {
+        fail(&rt, b"replay: standard input cannot be read", why);
         return;
     }
     let n = got.count;
-    replay_script(&all[0..n]);
+    replay_script(&rt, &all[0..n]);
 }

@@ -9,6 +9,7 @@ use book::ask::Asked;
 use positions::books::{ask, fresh};
 use positions::judge::judge;
 use posting::fresh::NewBook;
+use std::io;
 use verdict::settle::Settled;
 use wire::read::get8;
 
@@ -36,41 +37,41 @@ fn set_book(one: &[u8], s: Setup, book: &mut [u8]) -> Step
 }
 
 // g: whether its line went out, as in those below.
-fn make_fresh(one: &[u8], book: &mut [u8]) -> bool {
+fn make_fresh(rt: &HostRuntime, one: &[u8], book: &mut [u8]) -> io::Result<()> {
     match fresh(book, get64(one, 1)) {
-        NewBook::Made => print_on_book(one, 0, book, Told::Nothing),
-        NewBook::Refused(fault) => print_on_book(one, fault, book, Told::Nothing),
+        NewBook::Made => print_on_book(rt, one, 0, book, Told::Nothing),
+        NewBook::Refused(fault) => print_on_book(rt, one, fault, book, Told::Nothing),
     }
 }
 
 // p
-fn judge_log(one: &[u8], book: &mut [u8], findings: &mut [u8]) -> bool {
+fn judge_log(rt: &HostRuntime, one: &[u8], book: &mut [u8], findings: &mut [u8]) -> io::Result<()> {
     match judge(bytes_from(one, 5), book, findings) {
-        Settled::Found(n) => print_judged(one, 0, book, findings, Told::Findings(n)),
-        Settled::Refused(fault) => print_judged(one, fault, book, findings, Told::Nothing),
+        Settled::Found(n) => print_judged(rt, one, 0, book, findings, Told::Findings(n)),
+        Settled::Refused(fault) => print_judged(rt, one, fault, book, findings, Told::Nothing),
     }
 }
 
 // r
-fn ask_book(one: &[u8], book: &[u8]) -> bool {
+fn ask_book(rt: &HostRuntime, one: &[u8], book: &[u8]) -> io::Result<()> {
     match ask(book, get64(one, 1), get64(one, 9), get64(one, 17)) {
-        Asked::Total(total, rung) => print_on_book(one, 0, book, Told::Total(total, rung)),
-        Asked::Refused(fault) => print_on_book(one, fault, book, Told::Nothing),
+        Asked::Total(total, rung) => print_on_book(rt, one, 0, book, Told::Total(total, rung)),
+        Asked::Refused(fault) => print_on_book(rt, one, fault, book, Told::Nothing),
     }
 }
 
 // A call on the parts in use: whether its line went out.
-fn call(one: &[u8], book: &mut [u8], findings: &mut [u8]) -> bool {
+fn call(rt: &HostRuntime, one: &[u8], book: &mut [u8], findings: &mut [u8]) -> io::Result<()> {
     let letter = get8(one, 0);
     match letter {
-        b'g' => make_fresh(one, book),
-        b'p' => judge_log(one, book, findings),
-        _ => ask_book(one, book),
+        b'g' => make_fresh(rt, one, book),
+        b'p' => judge_log(rt, one, book, findings),
+        _ => ask_book(rt, one, book),
     }
 }
 
 // A log of at most 300,000 bytes; bytes that stay within the book.
-fn on_parts(one: &[u8], s: Setup, book: &mut [u8], findings: &mut [u8]) -> Step
+fn on_parts(rt: &HostRuntime, one: &[u8], s: Setup, book: &mut [u8], findings: &mut [u8]) -> Step
     requires { Within s }
     ensures { Within result.setup × (result.used ≤ length one.now) }
 {
@@ -85,11 +86,17 @@ fn on_parts(one: &[u8], s: Setup, book: &mut [u8], findings: &mut [u8]) -> Step
     if (letter == b'p') & (300005 < one.len()) {
         return broken(s);
     }
-    step.printed = call(one, book, findings);
+    step.printed = call(rt, one, book, findings);
     step
 }
 
-pub(crate) fn step(one: &[u8], s: Setup, findings: &mut [u8], book: &mut [u8]) -> Step
+pub(crate) fn step(
+    rt: &HostRuntime,
+    one: &[u8],
+    s: Setup,
+    findings: &mut [u8],
+    book: &mut [u8],
+) -> Step
     requires { Within s × (length findings.old ≡ 70000) × (length book.old ≡ 8000) }
     ensures { Within result.setup × (result.used ≤ length one.now) }
 {
@@ -98,5 +105,5 @@ pub(crate) fn step(one: &[u8], s: Setup, findings: &mut [u8], book: &mut [u8]) -
     }
     let b = s.positions;
     let f = s.findings;
-    on_parts(one, s, &mut book[0..b], &mut findings[0..f])
+    on_parts(rt, one, s, &mut book[0..b], &mut findings[0..f])
 }

@@ -7,6 +7,7 @@ use crate::exemption;
 use crate::script::{bytes_from, get_length};
 use daylog::header::Header;
 use desk::state::{Day, State};
+use std::io;
 use wire::read::{get8, get16, get32};
 
 #[derive(Clone, Copy)]
@@ -20,11 +21,12 @@ pub(crate) struct Setup {
     pub(crate) positions: usize,
 }
 
-// The bytes that a step took, 0 where it breaks the rules, whether what it prints went out, and the setup after it.
+// The bytes that a step took, 0 where it breaks the rules, whether what it prints went out or why not, and the setup after
+// it.
 #[derive(Clone, Copy)]
 pub(crate) struct Step {
     pub(crate) used: usize,
-    pub(crate) printed: bool,
+    pub(crate) printed: io::Result<()>,
     pub(crate) setup: Setup,
 }
 
@@ -48,7 +50,7 @@ pub(crate) fn broken(s: Setup) -> Step
 {
     Step {
         used: 0,
-        printed: true,
+        printed: Ok(()),
         setup: s,
     }
 }
@@ -59,7 +61,7 @@ pub(crate) fn changed(one: &[u8], s: Setup) -> Step
 {
     Step {
         used: one.len(),
-        printed: true,
+        printed: Ok(()),
         setup: s,
     }
 }
@@ -223,6 +225,7 @@ fn set_tables(one: &[u8], s: Setup, tables: &mut [u8]) -> Step
 
 // A step that is no call: what it sets up, or asks of the rules. Its letter is one that a script has.
 pub(crate) fn change(
+    rt: &HostRuntime,
     one: &[u8],
     s: Setup,
     counts: &mut [u32],
@@ -244,7 +247,7 @@ pub(crate) fn change(
         b'B' => set_book(one, s, book),
         b'b' => write_book(one, s, book),
         b'T' => set_tables(one, s, tables),
-        b'x' => exemption::ask(one, s),
+        b'x' => exemption::ask(rt, one, s),
         _ => broken(s),
     }
 }

@@ -5,26 +5,26 @@
 mod page;
 mod request;
 
-use libc::STDERR_FILENO;
+use files::said::{fail, say};
 use request::Request;
 
-fn tell_usage() {
-    io::write_all(
-        STDERR_FILENO,
+fn tell_usage(rt: &HostRuntime) {
+    say(
+        rt,
         b"usage: sheet [--rulebook N] [--type N] [--kind N] [--instruction N] [--purpose N]\n",
     );
 }
 
-fn main() {
-    match request::by_words() {
-        Request::Unclear => tell_usage(),
+fn main(rt: HostRuntime) {
+    match request::by_words(&rt) {
+        Request::Unclear => tell_usage(&rt),
         Request::For(codes) => {
             if !page::has_entry(codes) {
-                tell_usage();
+                tell_usage(&rt);
                 return;
             }
-            if !page::print(codes) {
-                os::fail(b"sheet: standard output cannot be written");
+            if let Err(why) = page::print(&rt, codes) {
+                fail(&rt, b"sheet: standard output cannot be written", &why);
             }
         }
     }

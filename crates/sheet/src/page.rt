@@ -5,6 +5,7 @@ use exemptions::lookup::{Codes, codes_at, entry_of};
 use exemptions::sheet::ENTRIES;
 use files::output::put;
 use rules::codes::{has_instruction, has_type};
+use std::io;
 use words::codes::{add_clause, add_instruction, add_kind, add_purpose, add_rulebook, add_sort};
 use words::line::{add_number, add_text};
 
@@ -38,22 +39,28 @@ pub(crate) fn has_entry(asked: Codes) -> bool {
     false
 }
 
-fn put_title() -> bool {
-    put(b"# Exemptions\n\n")
-        && put(b"An order that is exempt for a kind of offence does not count for it.\n")
-        && put(
-            b"Each line is an entry of the table that the desk looks up: its number, rulebook, contract\n",
-        )
-        && put(
-            b"type, kind, instruction, purpose, and whether such an order counts or which clause exempts it.\n",
-        )
+fn put_title(rt: &HostRuntime) -> io::Result<()> {
+    put(rt, b"# Exemptions\n\n")?;
+    put(
+        rt,
+        b"An order that is exempt for a kind of offence does not count for it.\n",
+    )?;
+    put(
+        rt,
+        b"Each line is an entry of the table that the desk looks up: its number, rulebook, contract\n",
+    )?;
+    put(
+        rt,
+        b"type, kind, instruction, purpose, and whether such an order counts or which clause exempts it.\n",
+    )
 }
 
 // The heading of a rulebook, with the document's place that exempts.
-fn put_rulebook(rulebook: u8) -> bool {
+fn put_rulebook(rt: &HostRuntime, rulebook: u8) -> io::Result<()> {
     match rulebook {
-        1 => put(b"\n## Rulebook 1, DCE: document 003, one (1) 4\n"),
+        1 => put(rt, b"\n## Rulebook 1, DCE: document 003, one (1) 4\n"),
         _ => put(
+            rt,
             b"\n## Rulebook 2, CFX (CFFEX government bond futures): document 004, one (1) 5\n",
         ),
     }
@@ -70,12 +77,12 @@ fn add_block(line: &mut [u8], at: usize, c: Codes) -> usize
     add_kind(line, at, c.kind)
 }
 
-fn put_block(c: Codes) -> bool {
+fn put_block(rt: &HostRuntime, c: Codes) -> io::Result<()> {
     let mut line = [0u8; LINE];
     let at = add_text(&mut line, 0, b"\n### ");
     let at = add_block(&mut line, at, c);
     let end = add_text(&mut line, at, b"\n\n");
-    put(&line[0..end])
+    put(rt, &line[0..end])
 }
 
 fn is_first_of_block(c: Codes) -> bool {
@@ -87,16 +94,14 @@ fn is_first_of_rulebook(c: Codes) -> bool {
 }
 
 // The headings that stand before the line of these codes.
-fn put_headings(asked: Codes, c: Codes) -> bool {
+fn put_headings(rt: &HostRuntime, asked: Codes, c: Codes) -> io::Result<()> {
     if is_first_of_rulebook(c) & is_asked(asked.text.rulebook, c.text.rulebook) {
-        if !put_rulebook(c.text.rulebook) {
-            return false;
-        }
+        put_rulebook(rt, c.text.rulebook)?;
     }
     if is_first_of_block(c) & is_block_asked(asked, c) {
-        return put_block(c);
+        return put_block(rt, c);
     }
-    true
+    Ok(())
 }
 
 // Whether such an order counts, or its clause; of codes that a rulebook does not have, that it refuses them.
@@ -130,35 +135,29 @@ fn add_entry(line: &mut [u8], number: usize, c: Codes) -> usize
     add_text(line, at, b"\n")
 }
 
-fn put_entry(number: usize, c: Codes) -> bool {
+fn put_entry(rt: &HostRuntime, number: usize, c: Codes) -> io::Result<()> {
     let mut line = [0u8; LINE];
     let end = add_entry(&mut line, number, c);
-    put(&line[0..end])
+    put(rt, &line[0..end])
 }
 
 // The headings before a place and its line, as far as they are asked for.
-fn put_place(asked: Codes, place: usize) -> bool
+fn put_place(rt: &HostRuntime, asked: Codes, place: usize) -> io::Result<()>
     requires { place < 288 }
 {
     let c = codes_at(place);
-    if !put_headings(asked, c) {
-        return false;
-    }
+    put_headings(rt, asked, c)?;
     if is_entry_asked(asked, c) {
-        return put_entry(place + 1, c);
+        return put_entry(rt, place + 1, c);
     }
-    true
+    Ok(())
 }
 
-// The page of the entries asked for. False where standard output does not take it all.
-pub(crate) fn print(asked: Codes) -> bool {
-    if !put_title() {
-        return false;
-    }
+// The page of the entries asked for, or why standard output does not take it all.
+pub(crate) fn print(rt: &HostRuntime, asked: Codes) -> io::Result<()> {
+    put_title(rt)?;
     for place in 0..ENTRIES {
-        if !put_place(asked, place) {
-            return false;
-        }
+        put_place(rt, asked, place)?;
     }
-    true
+    Ok(())
 }

@@ -1,9 +1,9 @@
 // Which entries the program's words ask for.
 ghost use Rattle.std.specs.Prelude.{◌<◌};
 
-use check::same;
 use exemptions::lookup::Codes;
 use rules::text::Text;
+use words::asked::{count_words, word_at};
 use words::number::number_in;
 
 #[derive(Clone, Copy)]
@@ -24,9 +24,9 @@ fn any() -> Codes {
 }
 
 // The word at a place as a code: one digit and no more. Anything else is 0, which no list has.
-fn code_at(place: usize) -> u8 {
+fn code_at(rt: &HostRuntime, place: usize) -> u8 {
     let mut word = [0u8; 1];
-    let len = os::arg(place, &mut word);
+    let len = word_at(rt, place, &mut word);
     number_in(&word[0..len]) as u8
 }
 
@@ -34,15 +34,15 @@ fn code_at(place: usize) -> u8 {
 fn narrowed(codes: Codes, word: &[u8], code: u8) -> Request {
     let mut next = codes;
     let text = Text { rulebook: code };
-    if same(word, b"--rulebook") {
+    if word == b"--rulebook".as_slice() {
         next.text = text;
-    } else if same(word, b"--type") {
+    } else if word == b"--type".as_slice() {
         next.sort = code;
-    } else if same(word, b"--kind") {
+    } else if word == b"--kind".as_slice() {
         next.kind = code;
-    } else if same(word, b"--instruction") {
+    } else if word == b"--instruction".as_slice() {
         next.instruction = code;
-    } else if same(word, b"--purpose") {
+    } else if word == b"--purpose".as_slice() {
         next.purpose = code;
     } else {
         return Request::Unclear;
@@ -51,27 +51,27 @@ fn narrowed(codes: Codes, word: &[u8], code: u8) -> Request {
 }
 
 // The same with a pair of the program's words, a list's name and a code; pairs count from 0.
-fn narrowed_by(codes: Codes, pair: usize) -> Request
+fn narrowed_by(rt: &HostRuntime, codes: Codes, pair: usize) -> Request
     requires { pair < 6 }
 {
-    let code = code_at(2 * pair + 2);
+    let code = code_at(rt, 2 * pair + 2);
     if code == 0 {
         return Request::Unclear;
     }
     let mut word = [0u8; 16];
-    let len = os::arg(2 * pair + 1, &mut word);
+    let len = word_at(rt, 2 * pair + 1, &mut word);
     narrowed(codes, &word[..len], code)
 }
 
 // What all the words ask for: at most five pairs, as there are five lists. The program's own name is counted too.
-pub(crate) fn by_words() -> Request {
+pub(crate) fn by_words(rt: &HostRuntime) -> Request {
     let mut codes = any();
-    let count = os::arg_count();
+    let count = count_words(rt);
     if 11 < count {
         return Request::Unclear;
     }
     for pair in 0..count / 2 {
-        match narrowed_by(codes, pair) {
+        match narrowed_by(rt, codes, pair) {
             Request::For(next) => {
                 codes = next;
             }

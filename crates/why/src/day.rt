@@ -6,7 +6,7 @@ use daylog::header::header_of;
 use daylog::record::record_length;
 use desk::open::open;
 use desk::state::{Answer, State};
-use libc::STDERR_FILENO;
+use files::said::say;
 use office::close::refuse;
 use office::input::{END, TURNS, fill_from_input};
 use office::lines::{write_count, write_heading};
@@ -46,18 +46,25 @@ fn open_day(log: &[u8], counts: &mut [u32]) -> Answer {
 }
 
 // Takes the records, of a row's length each, and writes the lines of those that are asked for.
-fn take_all(asked: u32, start: State, log: &[u8], row: &mut [u8], counts: &mut [u32]) -> Told {
+fn take_all(
+    rt: &HostRuntime,
+    asked: u32,
+    start: State,
+    log: &[u8],
+    row: &mut [u8],
+    counts: &mut [u32],
+) -> Told {
     let mut state = start;
     let mut lines = 0;
     for turn in 0..TURNS {
-        let got = fill_from_input(b"why", row);
+        let got = fill_from_input(rt, b"why", row);
         if got.count < row.len() {
             return Told::Refused(LENGTH);
         }
         if get8(row, 0) == END {
             return Told::All(lines);
         }
-        match take_record(asked, turn + 1, state, log, row, counts) {
+        match take_record(rt, asked, turn + 1, state, log, row, counts) {
             Step::Passed(next) => {
                 state = next;
             }
@@ -76,17 +83,17 @@ fn take_all(asked: u32, start: State, log: &[u8], row: &mut [u8], counts: &mut [
     Told::Refused(FULL)
 }
 
-fn finish(asked: u32, told: Told) {
+fn finish(rt: &HostRuntime, asked: u32, told: Told) {
     match told {
         Told::Unwritten => {}
         Told::Refused(number) => {
-            refuse(b"why", number);
+            refuse(rt, b"why", number);
         }
         Told::All(lines) => {
             if asked == 0 {
-                write_count(b"why", b"spared ", lines as u64);
+                write_count(rt, b"why", b"spared ", lines as u64);
             } else if lines == 0 {
-                io::write_all(STDERR_FILENO, b"why: the log has no such record\n");
+                say(rt, b"why: the log has no such record\n");
             }
         }
     }
@@ -98,23 +105,23 @@ fn row_size(log: &[u8]) -> usize
     record_length(header_of(log).version)
 }
 
-fn tell_open(asked: u32, state: State, log: &[u8], counts: &mut [u32]) {
-    if write_heading(b"why", b"AXD ", log) < 0 {
+fn tell_open(rt: &HostRuntime, asked: u32, state: State, log: &[u8], counts: &mut [u32]) {
+    if write_heading(rt, b"why", b"AXD ", log) < 0 {
         return;
     }
     let size = row_size(log);
     let mut row = [0u8; ROW];
-    let told = take_all(asked, state, log, &mut row[0..size], counts);
-    finish(asked, told);
+    let told = take_all(rt, asked, state, log, &mut row[0..size], counts);
+    finish(rt, asked, told);
 }
 
 // Tells of the record with the number asked for, or of all that were spared.
-pub(crate) fn tell(asked: u32, log: &[u8]) {
+pub(crate) fn tell(rt: &HostRuntime, asked: u32, log: &[u8]) {
     let mut counts = [0u32; MOST_CELLS];
     match open_day(log, &mut counts) {
         Answer::Refused(number) => {
-            refuse(b"why", number);
+            refuse(rt, b"why", number);
         }
-        Answer::Done(state) => tell_open(asked, state, log, &mut counts),
+        Answer::Done(state) => tell_open(rt, asked, state, log, &mut counts),
     }
 }

@@ -8,15 +8,15 @@ mod line;
 mod record;
 
 use asked::Asked;
-use libc::STDERR_FILENO;
+use files::said::say;
 use office::input::{TABLES, read_tables};
 
-fn main() {
-    let Asked::For(number) = asked::by_words() else {
-        io::write_all(STDERR_FILENO, b"usage: why [NUMBER] <day.axd\n");
+fn main(rt: HostRuntime) {
+    let Asked::For(number) = asked::by_words(&rt) else {
+        say(&rt, b"usage: why [NUMBER] <day.axd\n");
         return;
     };
     let mut log = [0u8; TABLES];
-    let end = read_tables(b"why", &mut log);
-    day::tell(number, &log[0..end]);
+    let end = read_tables(&rt, b"why", &mut log);
+    day::tell(&rt, number, &log[0..end]);
 }

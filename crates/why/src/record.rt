@@ -34,13 +34,13 @@ fn is_spared(sort: u8, why: Reasons) -> bool {
 }
 
 // Taking does not hand out what a record counts for: it is weighed again, but only for a line.
-fn write_line(number: u32, next: State, log: &[u8], row: &[u8]) -> Step {
+fn write_line(rt: &HostRuntime, number: u32, next: State, log: &[u8], row: &[u8]) -> Step {
     match weigh(header_of(log), log, row) {
         Weighed::Refused(fault) => Step::Refused(fault),
         Weighed::Counts(p, why) => {
             let mut line = [0u8; LINE];
             let end = add_record(&mut line, number, record_of(row), p, why);
-            if write(b"why", &line[0..end]) < 0 {
+            if write(rt, b"why", &line[0..end]) < 0 {
                 return Step::Unwritten;
             }
             Step::Written(next)
@@ -50,6 +50,7 @@ fn write_line(number: u32, next: State, log: &[u8], row: &[u8]) -> Step {
 
 // Takes the record with this number; 0 asks for each that was spared.
 pub(crate) fn take_record(
+    rt: &HostRuntime,
     asked: u32,
     number: u32,
     state: State,
@@ -61,7 +62,7 @@ pub(crate) fn take_record(
         Taken::Refused(fault) => Step::Refused(fault),
         Taken::Done(next, why) => {
             if (asked == number) | ((asked == 0) & is_spared(get8(row, 0), why)) {
-                return write_line(number, next, log, row);
+                return write_line(rt, number, next, log, row);
             }
             Step::Passed(next)
         }

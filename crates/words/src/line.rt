@@ -2,6 +2,8 @@
 // is left out, and a place past it counts as its end.
 ghost use Rattle.std.specs.Prelude.{◌≤◌, length};
 
+use itoa::Buffer;
+
 // The place itself, or the line's end where it is past that.
 fn place_in(at: usize, len: usize) -> usize
     ensures { result ≤ len }
@@ -34,8 +36,7 @@ pub fn add_text(line: &mut [u8], at: usize, text: &[u8]) -> usize
 pub fn add_number(line: &mut [u8], at: usize, n: u64, after: u8) -> usize
     ensures { result ≤ length line.new }
 {
-    let mut digits = [0u8; 20];
-    let k = io::decimal(n, &mut digits);
-    let next = add_text(line, at, &digits[..k]);
+    let mut digits = Buffer::new();
+    let next = add_text(line, at, digits.format(n).as_bytes());
     add_byte(line, next, after)
 }

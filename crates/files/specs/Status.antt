@@ -1,0 +1,7 @@
+-- What a call that succeeds or fails answers, in the system's own way.
+use Rattle.std.specs.Prelude.{◌≡◌, ℤ, pos, negsuc}
+
+-- 0, or -1
+abbrev pub Status : ℤ → Type 0
+Status (pos k) = k ≡ 0
+Status (negsuc k) = k ≡ 0

@@ -1,0 +1,57 @@
+// What is said on standard error where a call of the system failed: some words, a colon and the system's reason.
+ghost use Rattle.std.specs.Prelude.{◌≤◌, length};
+
+use std::io;
+use std::io::{Cursor, Print, Write};
+
+// Room for the longest reason, with the number that the system has for it.
+const ROOM: usize = 128;
+
+// The words as they are. Where standard error does not take them there is nobody left to tell.
+pub fn say(rt: &HostRuntime, words: &[u8]) {
+    let _ = Print::write_all(&rt.stderr(), words);
+}
+
+// Where a reason's own words end: before the last bracket and the space in front of it, if there is one.
+fn words_end(text: &[u8]) -> usize
+    ensures { result ≤ length text.now }
+{
+    let mut end = text.len();
+    for i in 0..text.len() {
+        if text[i] == b'(' {
+            end = i.saturating_sub(1);
+        }
+    }
+    end
+}
+
+// A reason of the system's ends in its number, as " (os error 2)", which is left out.
+fn say_reason(rt: &HostRuntime, text: &[u8], is_numbered: bool) {
+    if is_numbered {
+        say(rt, &text[..words_end(text)]);
+    } else {
+        say(rt, text);
+    }
+}
+
+// As much of a room as was written, which ends at a place.
+fn say_written(rt: &HostRuntime, room: &[u8], at: u64, is_numbered: bool) {
+    if at <= room.len() as u64 {
+        say_reason(rt, &room[..at as usize], is_numbered);
+    }
+}
+
+// A line: the words, and why a call failed.
+pub fn fail(rt: &HostRuntime, words: &[u8], why: &io::Error) {
+    let mut text = Cursor::new([0u8; ROOM]);
+    let _ = write!(text, "{why}");
+    say(rt, words);
+    say(rt, b": ");
+    say_written(
+        rt,
+        text.get_ref(),
+        text.position(),
+        why.raw_os_error().is_some(),
+    );
+    say(rt, b"\n");
+}

@@ -1,0 +1,6 @@
+-- The checksum stays below its modulus.
+use Rattle.std.proofs.Common.{◌<◌}
+use Rattle.replay.proofs.line.of_numbers.Given as goal
+
+abbrev pub invariant-loop-i : goal.invariant-loop-i
+invariant-loop-i l = l.h < 4294967291

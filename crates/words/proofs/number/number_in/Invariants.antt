@@ -1,0 +1,7 @@
+-- So far all bytes were digits, and the number is what they are worth.
+use Rattle.std.proofs.Common.{◌≡◌, ◌≤◌, true, length}
+use Rattle.words.specs.Number.{digits, worth}
+use Rattle.words.proofs.number.number_in.Given as goal
+
+abbrev pub invariant-loop-i : goal.invariant-loop-i
+invariant-loop-i l = (length l.word ≤ 9) × (digits l.word l.i ≡ true) × (l.n ≡ worth l.word l.i)

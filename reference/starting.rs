@@ -32,6 +32,9 @@ pub fn starting(stage: &Stage) -> Endings {
     let mut all: Endings = tests.map(|(name, test)| (name.to_string(), test(stage, &checkout).into())).into();
     let lacking = if is_root() { cannot_reach(&checkout) } else { None };
     all.push(("a checkout that cannot be written".to_string(), unless(lacking, || read_only(&checkout))));
+    if let Err(error) = fs::remove_dir_all(&checkout) {
+        all.push(("the small checkout taken away".to_string(), Ending::Failed(text(error))));
+    }
     all
 }
 
@@ -42,26 +45,35 @@ pub fn starting_a_clerk(stage: &Stage) -> Endings {
     tests.map(|(name, test)| (name.to_string(), test(stage).into())).into()
 }
 
-/// `bin/run` tells times by the second, and a source of the second in which it began to build is newer for it.
+/// A file system can tell times by the second: then a source of the second in which a build began is not newer.
 const TICK: Duration = Duration::from_millis(1_100);
 
+/// Outside our own checkout, in which no other may stand.
 fn make_checkout(stage: &Stage) -> Result<PathBuf, String> {
-    let checkout = empty_folder(stage.folder, "checkout")?;
+    let checkout = empty_folder(&std::env::temp_dir(), &format!("reference-{}-checkout", std::process::id()))?;
     let source = checkout.join("crates/tiny/src");
     fs::create_dir_all(&source).map_err(text)?;
     fs::create_dir(checkout.join("bin")).map_err(text)?;
-    fs::copy(&stage.programs.run, checkout.join("bin/run")).map_err(text)?;
-    let files = [
-        ("crates.txt", "tiny: io libc\n"),
-        ("crates/tiny/stdout", "tiny\n"),
-        ("crates/tiny/src/main.rt", "fn main() {\n    io::write_all(1, b\"tiny\\n\");\n}\n"),
-    ];
+    for name in ["run", "build.bash"] {
+        fs::copy(stage.programs.run.with_file_name(name), checkout.join("bin").join(name)).map_err(text)?;
+    }
+    let files =
+        [("crates.txt", "tiny:\n"), ("crates/tiny/stdout", "tiny\n"), ("crates/tiny/src/main.rt", TINY)];
     for (name, content) in files {
         fs::write(checkout.join(name), content).map_err(text)?;
     }
     thread::sleep(TICK);
     Ok(checkout)
 }
+
+const TINY: &str = "#![tactic(auto)]
+
+use std::io;
+
+fn main(rt: HostRuntime) -> io::Result<()> {
+    println!(rt; \"tiny\")
+}
+";
 
 fn tiny(words: &str, folder: &Path) -> Command {
     command(&[words.to_string(), "tiny".to_string()], folder)
@@ -90,9 +102,9 @@ fn two_builds(checkout: &Path) -> Result<(), String> {
     Err(format!("{builders} of 2 built"))
 }
 
-/// The prover leaves its words here at each call.
+/// A program has the time at which its build began.
 fn last_build(checkout: &Path) -> Result<SystemTime, String> {
-    fs::metadata(checkout.join("target/log/tiny.out")).and_then(|file| file.modified()).map_err(text)
+    fs::metadata(checkout.join("target/bin/tiny")).and_then(|file| file.modified()).map_err(text)
 }
 
 /// Whether a run called the prover.

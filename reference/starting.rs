@@ -57,8 +57,7 @@ fn make_checkout(stage: &Stage) -> Result<PathBuf, String> {
     for name in ["run", "build.bash"] {
         fs::copy(stage.programs.run.with_file_name(name), checkout.join("bin").join(name)).map_err(text)?;
     }
-    let files =
-        [("crates.txt", "tiny:\n"), ("crates/tiny/stdout", "tiny\n"), ("crates/tiny/src/main.rt", TINY)];
+    let files = [("crates.txt", "tiny:\n"), ("crates/tiny/stdout", "tiny\n"), ("crates/tiny/src/main.rt", TINY)];
     for (name, content) in files {
         fs::write(checkout.join(name), content).map_err(text)?;
     }

@@ -11,7 +11,8 @@ loop-done-preserved g c =
     let got = c.read_some-got in
     let within : done ≤ length c.loop-done.buf = c.loop-done.invariant.within in
     let count : got.result.count ≤ length got.new.part = got.ensures.count in
-    let more = take-put_mid-more done (length c.loop-done.buf - done) got.result.count c.loop-done.buf got.new.part within count in
+    let room = length c.loop-done.buf - done in
+    let more = take-put_mid-more done room got.result.count c.loop-done.buf got.new.part within count in
     record {
       within = search rules;
       taken = subst (Consumes _ _) more (Consumes-trans _ _ _ _ _ c.loop-done.invariant.taken got.ensures.bytes);

@@ -19,7 +19,8 @@ use Rattle.book.specs.Layout.{total_at}
 use Rattle.book.specs.Sound.{sound_as}
 use Rattle.book.specs.Ask.{in_range, ask_fault_as, ask_answer_as}
 
-pub in_range_lem : (k : Kinds) (group kind family : ℕ) → in_range k group kind family ≡ true → HasLadder k group kind family
+pub in_range_lem : (k : Kinds) (group kind family : ℕ) → in_range k group kind family ≡ true
+    → HasLadder k group kind family
 unfolding in_range
 in_range_lem k group kind family e =
     let groups = within 1 128 group in

@@ -194,4 +194,5 @@ sound_facts shape b e =
 pub sound_most : (shape : Shape) (b : List ℕ) → SoundBook shape b
     → (l : ℕ) → l < ladders shape.kinds → total_at b l ≤ 366
 sound_most shape b s l h =
-    le_trans (s.totals l h) (le_trans (most_le (rulebook_of b) (day_number (last_date b)) l) (number_most (last_date b)))
+    le_trans (s.totals l h)
+    (le_trans (most_le (rulebook_of b) (day_number (last_date b)) l) (number_most (last_date b)))

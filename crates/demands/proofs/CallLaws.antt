@@ -87,7 +87,11 @@ module _ (held log c book out : List ℕ) where
   opening t =
       let counts = zeroed (kinds_for (header_of log)) c in
       let a = pick t (Done (Open (day_of log))) (Refused handed_is) in
-      record { reply = moved a; after = desk_of (state_after Closed a) (log_after held log a) (pick t counts c) book out }
+      record {
+        reply = moved a;
+        after = desk_of (state_after Closed a) (log_after held log a) (pick t counts c) book
+            out;
+      }
 
   open_step : Same (opening (eqb handed_is 0)) (open_ruled (paper idle book out (length c)) log handed_is)
   unfolding open_ruled answered pick
@@ -130,9 +134,14 @@ module _ (log c book out : List ℕ) (rs : List Record) (row : List ℕ) (a : Ag
       let after = Open (record { head = header_of log; taken = length rs + 1 }) in
       let old = paper (during log rs) book out (length c) in
       let new = paper (during log (record_of row ∷ rs)) book out (length c) in
-      record { reply = took (pick t (TakeDone after (reasons_in log row)) (TakeRefused taking_number)); after = pick t new old }
+      record {
+        reply = took (pick t (TakeDone after (reasons_in log row)) (TakeRefused taking_number));
+        after = pick
+            t new old;
+      }
 
-  take_step : Same (taking (eqb taking_number 0)) (take_ruled (paper (during log rs) book out (length c)) log rs row taking_number)
+  take_step : Same (taking (eqb taking_number 0))
+      (take_ruled (paper (during log rs) book out (length c)) log rs row taking_number)
   unfolding take_ruled answered pick
   take_step = go (eqb taking_number 0) refl
     where
@@ -162,7 +171,8 @@ module _ (log c book out : List ℕ) (rs : List Record) (row : List ℕ) (a : Ag
     where
       go : (t : Bool) → Same (ending (day_verdict (tables_of log) rs) t)
           (record {
-            reply = ended (pick t (EndDone Closed (found_count (day_verdict (tables_of log) rs))) (EndRefused ending_number));
+            reply = ended (pick t (EndDone Closed (found_count (day_verdict (tables_of log) rs)))
+                (EndRefused ending_number));
             after =
                 let buffers = written (day_verdict (tables_of log) rs) (header_of log).date book out in
                 pick t (paper idle buffers.0 buffers.1 (length c)) (paper (during log rs) book out (length c));

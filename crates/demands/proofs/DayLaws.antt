@@ -37,7 +37,8 @@ use Rattle.counts.specs.Weigh.{record_fault, weigh_fault}
 use Rattle.desk.specs.Take.{sizes_fault, held_fault, day_fault, take_fault}
 use Rattle.desk.specs.Open.{kinds_for, zeroed}
 use Rattle.desk.specs.Offences.{kinds_on, family_of, reached_at, lowest, lowest_on, verdict_on}
-use Rattle.desk.specs.End.{call_fault, row_fault, cells_good, cells_fault, in_cells, cell_verdict, counts_fault, lent_fault}
+use Rattle.desk.specs.End.{call_fault, row_fault, cells_good, cells_fault, in_cells, cell_verdict, counts_fault}
+use Rattle.desk.specs.End.{lent_fault}
 use Rattle.desk.specs.End.{end_fault}
 use Rattle.years.specs.Days.{how_many}
 use Rattle.demands.specs.Counts.{times_of, times_on, day_verdict}
@@ -134,7 +135,8 @@ module _ (log : List ℕ) (rs : List Record) (c : List ℕ) (a : Agrees log rs c
   low_at : (i : ℕ) → i < cells kinds → get_or c i 0 ≤ length rs
   low_at i h =
       subst (λ (j : ℕ). get_or c j 0 ≤ length rs) (sym (cell_is kinds i))
-      (low (i / (32 * kinds_in kinds) + 1) (i / 32 % kinds_in kinds + first_kind kinds) (i % 32) (cell_in_lem kinds i h))
+      (low (i / (32 * kinds_in kinds) + 1) (i / 32 % kinds_in kinds + first_kind kinds) (i % 32)
+      (cell_in_lem kinds i h))
 
   cells_good_is : cells_good kinds (length rs) c ≡ true
   unfolding cells_good
@@ -224,7 +226,8 @@ module _ (log : List ℕ) (rs : List Record) (c : List ℕ) (a : Agrees log rs c
       (record { row = row_at kinds ladder h; last_place = omega (arith, (known_tables log a.sound).few) })
 
   lowest_is : (ladder : ℕ) → ladder < ladders kinds
-      → lowest_on (tables_of log) (in_cells kinds c) ladder ≡ lowest_on (tables_of log) (times_on (tables_of log) rs) ladder
+      → lowest_on (tables_of log) (in_cells kinds c) ladder
+      ≡ lowest_on (tables_of log) (times_on (tables_of log) rs) ladder
   unfolding lowest_on lowest reached_at
   lowest_is ladder h =
       let t = tables_of log in
@@ -262,7 +265,8 @@ module _ (log : List ℕ) (rs : List Record) (c : List ℕ) (a : Agrees log rs c
       → counts_fault (day_in log rs) (tables_of log) c room ≡ short_fault (day_verdict (tables_of log) rs) room
   unfolding counts_fault short_fault
   counts_are room =
-      or_else_lem (cells_fault kinds (length rs) c) _ cells_fault_is ∙ ap (λ (n : ℕ). pick (ltb room (8 * n)) 20 0) count_is
+      or_else_lem (cells_fault kinds (length rs) c) _ cells_fault_is
+      ∙ ap (λ (n : ℕ). pick (ltb room (8 * n)) 20 0) count_is
 
   pub end_is : (row book : List ℕ) (room : ℕ)
       → end_fault (Open (day_in log rs)) log row book c room ≡ end_refusal log rs row book room

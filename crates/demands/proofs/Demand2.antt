@@ -299,7 +299,8 @@ log_kept : (from : List ℕ) (days : List PastDay) (book log : List ℕ) → End
 unfolding ruled_file
 log_kept from days book log k =
     ended_pick (eqb (log_number book log) 0) from _ days (day_book book log) book
-    (λ e. ended_day_lem from days (front log) book (records_in [] (rows_of log)) k (log_ready book log (eqb-true _ 0 e))) k
+    (λ e. ended_day_lem from days (front log) book (records_in [] (rows_of log)) k
+    (log_ready book log (eqb-true _ 0 e))) k
 
 pub logs_kept : (from : List ℕ) (days : List PastDay) (book : List ℕ) (logs : List (List ℕ)) → Ended from days book
     → Ended from (log_days book days logs) (last_file book (ruled_logs book logs))

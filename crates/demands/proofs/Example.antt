@@ -46,11 +46,11 @@ tables_join = record {
 -- the four numbers
 numbers : (three_alone 1 (days_with 1) ≡ 1) × (three_alone 2 (days_with 2) ≡ 0)
     × (three_or_five 1 (days_with 1) ≡ 1) × (three_or_five 2 (days_with 2) ≡ 1)
-unfolding three_alone three_or_five days_with trading_day tables_with own_trade sanctions sanction_on offence_days offence_on
-    total_over carried blank_as book_as head_of le bytes offends verdict_on day_shape lowest_on lowest reached_at times_on
-    times_of how_many member_on has_member family_of counts_for counts_as plan_of plan_for group_of group_in contract_of is_in
-    account_place contract_place kinds_of kinds_in first_kind sanction rung family enough exempt known by_three first some
-    every pick
+unfolding three_alone three_or_five days_with trading_day tables_with own_trade sanctions sanction_on offence_days
+    offence_on total_over carried blank_as book_as head_of le bytes offends verdict_on day_shape lowest_on lowest
+    reached_at times_on times_of how_many member_on has_member family_of counts_for counts_as plan_of plan_for
+    group_of group_in contract_of is_in account_place contract_place kinds_of kinds_in first_kind sanction rung family
+    enough exempt known by_three first some every pick
 numbers = (refl, refl, refl, refl)
 
 pub why_three_or_five : WhyThreeOrFive

@@ -1,5 +1,5 @@
 -- What the join of two groups does to the counts of a day: the two are added, and a trade between them becomes a
--- self_trade. Assumes nothing.
+-- self-trade. Assumes nothing.
 use mathlib.Core.Path.{◌≡◌, refl, sym, ap, ap₂, ◌∙◌}
 use mathlib.Core.Bool.{Bool, true, false, ◌&&◌, ◌||◌, not, and-false}
 use mathlib.Core.List.{List}
@@ -111,7 +111,7 @@ unfolding pick
 behind true p q r s e = e
 behind false p q r s e = refl
 
--- a test on two groups that is three others, among the other tests of a self_trade
+-- a test on two groups that is three others, among the other tests of a self-trade
 around : (s m1 m2 c o x o1 y o2 z w : Bool) → pick (o && x) 1 0 ≡ pick (o1 && y) 1 0 + pick (o2 && z) 1 0 + pick w 1 0
     → pick (s && (o && m1 && m2) && x && c) 1 0
     ≡ pick (s && (o1 && m1 && m2) && y && c) 1 0 + pick (s && (o2 && m1 && m2) && z && c) 1 0 + pick
@@ -232,7 +232,7 @@ module _ (a b : ℕ) (t t' : Tables) (j : Joined a b t t') (some_a : 1 ≤ a) (a
     abbrev trade : Bool
     trade = eqb r.sort 1
 
-    -- the first order, and the second, is not exempt as a self_trade
+    -- the first order, and the second, is not exempt as a self-trade
     abbrev free1 : Bool
     free1 = not (exempt1 t.text (t.contract place_of) r 1)
 
@@ -269,7 +269,8 @@ module _ (a b : ℕ) (t t' : Tables) (j : Joined a b t t') (some_a : 1 ≤ a) (a
     counts_joined g k place = ap (λ (p : Plan). counts_as p k && eqb p.group g && eqb p.place place) plan_joined
 
     cancels_add : (k place : ℕ) → (k ≡ 1 → ⊥)
-        → pick (counts_for t' r b k place) 1 0 ≡ pick (counts_for t r a k place) 1 0 + pick (counts_for t r b k place) 1 0
+        → pick (counts_for t' r b k place) 1 0
+        ≡ pick (counts_for t r a k place) 1 0 + pick (counts_for t r b k place) 1 0
     cancels_add k place n =
         rw (
           counts_joined b k place,
@@ -283,7 +284,8 @@ module _ (a b : ℕ) (t t' : Tables) (j : Joined a b t t') (some_a : 1 ≤ a) (a
 
     selfs_add : (place : ℕ)
         → pick (counts_for t' r b 1 place) 1 0
-        ≡ pick (counts_for t r a 1 place) 1 0 + pick (counts_for t r b 1 place) 1 0 + pick (between_for t r a b place) 1 0
+        ≡ pick (counts_for t r a 1 place) 1 0 + pick (counts_for t r b 1 place) 1 0 + pick
+        (between_for t r a b place) 1 0
     unfolding between_for
     selfs_add place =
         rw (

@@ -24,7 +24,8 @@ unfolding front_size
 size_least log = pick_least _ 16 _ 16 (omega arith) (omega arith)
 
 pub front_head : (log : List ℕ) → header_of (front log) ≡ header_of log
-front_head log = header_same (front log) log (λ i h. get_or-take (front_size log) log i 0 (omega (arith, size_least log)))
+front_head log = header_same (front log) log
+    (λ i h. get_or-take (front_size log) log i 0 (omega (arith, size_least log)))
 
 -- ---- the front of a joined file
 module _ (a b : ℕ) (log : List ℕ) (some : 1 ≤ a) where

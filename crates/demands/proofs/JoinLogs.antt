@@ -59,7 +59,8 @@ module _ (a b : ℕ) (two : Two a b) where
   -- ---- one log, on the files of the two years so far
   module _ (from from' : List ℕ) (days days' : List PastDay) (book book' : List ℕ)
       (s : Years a b (on from days) (on from' days') book book') (log : List ℕ) where
-    handed_same : handed_fault (front (join_log a b log)) book' clerk_counts ≡ handed_fault (front log) book clerk_counts
+    handed_same : handed_fault (front (join_log a b log)) book' clerk_counts
+        ≡ handed_fault (front log) book clerk_counts
     handed_same =
         ap (λ (l : List ℕ). handed_fault l book' clerk_counts) (front_joined a b log two.first_a)
         ∙ open_same a b two (front log) book book' clerk_counts clerk_counts (book_same a b two _ _ book book' s) refl
@@ -99,7 +100,8 @@ module _ (a b : ℕ) (two : Two a b) where
       (logs : List (List ℕ)) : Type 0 where
     pub numbers : map (λ j. j.number) (ruled_logs book' (map (join_log a b) logs)) ≡ map (λ j. j.number)
         (ruled_logs book logs)
-    pub years : Years a b (on from (log_days book days logs)) (on from' (log_days book' days' (map (join_log a b) logs)))
+    pub years : Years a b (on from (log_days book days logs))
+        (on from' (log_days book' days' (map (join_log a b) logs)))
         (last_file book (ruled_logs book logs)) (last_file book' (ruled_logs book' (map (join_log a b) logs)))
 
   pub files : (from from' : List ℕ) (days days' : List PastDay) (book book' : List ℕ) (logs : List (List ℕ))

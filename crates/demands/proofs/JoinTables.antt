@@ -9,13 +9,13 @@ use borrow.Author.Tests.{eqb-true, not-false}
 use lib.Dec.{eqb}
 use lib.ListN.{length, get_or, drop, length-drop}
 use lib.Seq.{take_all}
-use Rattle.wire.proofs.ByteLaws.{le_cong}
 use Rattle.tables.specs.Accounts.{accounts_good}
 use Rattle.tables.specs.ContractEntries.{contract_at}
 use Rattle.tables.specs.Entries.{entries}
 use Rattle.joining.specs.Joining.{accounts_in, PartJoined}
 use Rattle.joining.proofs.JoiningLaws.{join_length, join_before, part_joined, pick_after}
-use Rattle.daylog.specs.Header.{header_of, log_marked, contracts_part, accounts_part, entries_fault, head_fault, log_fault}
+use Rattle.daylog.specs.Header.{header_of, log_marked, contracts_part, accounts_part, entries_fault, head_fault}
+use Rattle.daylog.specs.Header.{log_fault}
 use Rattle.daylog.specs.Header.{tables_of}
 use Rattle.tables.specs.Tables.{tables_in}
 use Rattle.daylog.proofs.FaultLaws.{log_sound}

@@ -222,7 +222,8 @@ judges book log (opened m z r) =
     let s = clerk_rests book in
     let f : handed_fault (front log) book clerk_counts ≡ 0 = sym (open_number s m) ∙ z in
     let fits = (handed_parts (front log) book clerk_counts f).1 in
-    let full : full_room ≤ length (replicate {A = ℕ} full_room 0) = omega (arith, length-replicate {A = ℕ} full_room 0) in
+    let full : full_room ≤ length (replicate {A = ℕ} full_room 0) = omega
+    (arith, length-replicate {A = ℕ} full_room 0) in
     let q = reads (front log) book (replicate full_room 0) clerk_counts fits full [] (open_stands s m f) r in
     record { same = q.same ∙ sym (or_else_lem (handed_fault (front log) book clerk_counts) _ f); written = q.written }
 

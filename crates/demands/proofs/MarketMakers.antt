@@ -18,6 +18,6 @@ use Rattle.demands.specs.MarketMakers.{day_on, maker_offends, market_makers, Mar
 
 pub market_makers_lem : MarketMakers
 unfolding market_makers maker_offends day_on all_hold pick every some first by_three known exempt enough family is_in
-    contract_of group_of group_in account_place contract_place plan_for plan_of counts_as counts_for family_of how_many times_of
-    reaches_on offence
+    contract_of group_of group_in account_place contract_place plan_for plan_of counts_as counts_for family_of
+    how_many times_of reaches_on offence
 market_makers_lem = refl

@@ -62,4 +62,5 @@ unfolding sanctions
 three_or_five_lem from y l [] = refl
 three_or_five_lem from y l (d ∷ days) =
     ap₂ (λ (b : Bool) (n : ℕ). pick (eqb (year d.date) y && b) 1 0 + n)
-    (either_is (sanction_on from l (written d) (all_written days)) (day_low from l d days)) (three_or_five_lem from y l days)
+    (either_is (sanction_on from l (written d) (all_written days)) (day_low from l d days))
+    (three_or_five_lem from y l days)

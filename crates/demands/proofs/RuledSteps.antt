@@ -112,7 +112,8 @@ module _ (log : List ℕ) (rs : List Record) (book out : List ℕ) where
   end_paper =
       let t = tables_of log in
       let date = (header_of log).date in
-      paper idle (book_after (day_verdict t rs) date book) (put out 0 (findings (day_verdict t rs) date book)) clerk_counts
+      paper idle (book_after (day_verdict t rs) date book) (put out 0 (findings (day_verdict t rs) date book))
+      clerk_counts
 
   pub closes : (row : List ℕ) → end_refusal log rs row book (length out) ≡ 0
       → Goes (paper (during log rs) book out clerk_counts) (end_day row ∷ []) (0 ∷ [])

@@ -26,10 +26,10 @@ use Rattle.demands.specs.WhoeverSent.{SameTables, well_sent, whole}
 use Rattle.demands.specs.SentExample.{sent_tables, sent_by, cancel_row, sent_opened, sent_steps, SentExample}
 
 numbered : (p : Paper) → numbers_on (sent_opened p) sent_steps ≡ 1 ∷ 11 ∷ 11 ∷ 11 ∷ 11 ∷ 0 ∷ 0 ∷ 1 ∷ 11 ∷ 15 ∷ []
-unfolding sent_opened sent_steps sent_tables sent_by cancel_row worked_tables tables_for trade_on end_row put bytes numbers_on
-    rules rule take_ruled take_number end_ruled end_refusal row_fault end_good record_fault brokers_wrong brokers_of fields_fault
-    has_contract has_account contract_of is_in contract_place account_place record_length record_good record_of answered
-    tables_of tables_in header_of contract_at account_at first le or_else pick
+unfolding sent_opened sent_steps sent_tables sent_by cancel_row worked_tables tables_for trade_on end_row put bytes
+    numbers_on rules rule take_ruled take_number end_ruled end_refusal row_fault end_good record_fault brokers_wrong
+    brokers_of fields_fault has_contract has_account contract_of is_in contract_place account_place record_length
+    record_good record_of answered tables_of tables_in header_of contract_at account_at first le or_else pick
 numbered p = refl
 
 room : 6 ≤ length worked_tables

@@ -24,7 +24,8 @@ use Rattle.tables.specs.Tables.{tables_in}
 use Rattle.book.specs.Fits.{book_fault}
 use Rattle.daylog.specs.declared.record.Record.{Record}
 use Rattle.daylog.specs.Brokers.{has_brokers, brokers_wrong}
-use Rattle.daylog.specs.Header.{header_of, log_marked, contracts_part, accounts_part, entries_fault, head_fault, log_fault}
+use Rattle.daylog.specs.Header.{header_of, log_marked, contracts_part, accounts_part, entries_fault, head_fault}
+use Rattle.daylog.specs.Header.{log_fault}
 use Rattle.daylog.specs.Header.{tables_of}
 use Rattle.daylog.specs.Records.{record_length, record_of, end_good}
 use Rattle.daylog.specs.Rows.{is_end}
@@ -127,7 +128,8 @@ not_wrong version row w = go (is_end row) refl
         not-true (brokers_wrong version row) (pick_no (is_end row) (not (brokers_wrong version row)) _ _ e refl ∙ w)
 
 -- an end record has none
-no_brokers : (version : ℕ) (row : List ℕ) → well_sent version row ≡ true → is_end row ≡ true → eqb (le 4 row 20) 0 ≡ true
+no_brokers : (version : ℕ) (row : List ℕ) → well_sent version row ≡ true → is_end row ≡ true → eqb (le 4 row 20) 0
+    ≡ true
 unfolding well_sent
 no_brokers version row w e = pick_yes (is_end row) (eqb (le 4 row 20) 0) _ _ e refl ∙ w
 

@@ -51,9 +51,9 @@ unfolding starred all_hold
 larges = refl
 
 offences : all_hold (part 7 14) ≡ true
-unfolding starred all_hold pick every some first by_three known exempt enough family is_in contract_of group_of group_in
-    account_place contract_place plan_for plan_of counts_as counts_for family_of how_many times_of reaches_on offence day_with
-    trade cancel self_trades cancels cancels_on_two large_cancels
+unfolding starred all_hold pick every some first by_three known exempt enough family is_in contract_of group_of
+    group_in account_place contract_place plan_for plan_of counts_as counts_for family_of how_many times_of reaches_on
+    offence day_with trade cancel self_trades cancels cancels_on_two large_cancels
 offences = refl
 
 dates : all_hold (part 21 2) ≡ true
@@ -71,8 +71,8 @@ unfolding starred all_hold pick rung
 rungs = refl
 
 records : all_hold (drop 29 starred) ≡ true
-unfolding starred all_hold pick first known exempt is_in contract_of group_of group_in account_place contract_place plan_for
-    plan_of counts_as counts_for day_with cancel cancel_counts
+unfolding starred all_hold pick first known exempt is_in contract_of group_of group_in account_place contract_place
+    plan_for plan_of counts_as counts_for day_with cancel cancel_counts
 records = refl
 
 pub starred_hold : Starred

@@ -1,13 +1,12 @@
 -- A day ended on a book is one that the book may have: so the book is that of the days. Assumes nothing.
 use mathlib.Core.Path.{◌≡◌, refl, sym, ap, ◌∙◌, subst}
-use mathlib.Core.Bool.{Bool, true, false, ◌&&◌}
+use mathlib.Core.Bool.{true, false, ◌&&◌}
 use mathlib.Core.List.{List, ◌∷◌}
-use Prim.Native.Nat.{ℕ, ◌≤◌}
+use Prim.Native.Nat.{ℕ}
 use native.Mathlib.Omega.{arith}
 use borrow.Author.Tests.{leb-true}
 use lib.Dec.{leb, eqb}
-use Rattle.wire.specs.Choice.{pick}
-use Rattle.wire.proofs.ChoiceLaws.{pick_yes, and_left, and_right, and_no}
+use Rattle.wire.proofs.ChoiceLaws.{and_left, and_right, and_no}
 use Rattle.wire.proofs.BelowLaws.{some_none}
 use Rattle.rules.specs.Codes.{is_rulebook}
 use Rattle.rules.proofs.FamilyLaws.{family_one}

@@ -71,7 +71,8 @@ use Rattle.demands.proofs.SampleLaws.{one, one_rulebook, one_date, one_total, on
 -- the records that it took, the latest first
 worked_records : List Record
 worked_records =
-    record_of (trade_row 12 12) ∷ record_of (trade_row 11 12) ∷ record_of (trade_row 11 12) ∷ record_of (trade_row 11 12)
+    record_of (trade_row 12 12) ∷ record_of (trade_row 11 12) ∷ record_of (trade_row 11 12)
+    ∷ record_of (trade_row 11 12)
     ∷ record_of (trade_row 11 12) ∷ []
 
 -- its tables, and what its end goes by
@@ -94,11 +95,13 @@ log_good = refl
 
 -- on any book and buffers, every trade is taken
 trades_go : (book out : List ℕ) (len : ℕ)
-    → Goes (paper (during worked_tables []) book out len) worked_trades (0 ∷ 0 ∷ 0 ∷ 0 ∷ 0 ∷ []) (0 ∷ 0 ∷ 0 ∷ 0 ∷ 0 ∷ [])
+    → Goes (paper (during worked_tables []) book out len) worked_trades (0 ∷ 0 ∷ 0 ∷ 0 ∷ 0 ∷ []) (0 ∷ 0 ∷ 0 ∷ 0 ∷ 0
+    ∷ [])
     (paper (during worked_tables worked_records) book out len)
 unfolding worked_trades worked_records worked_tables tables_for trade_on numbers_on rules paper_after rule take_ruled
-    take_number record_fault brokers_wrong fields_fault has_contract has_account contract_of is_in contract_place account_place
-    record_length record_good record_of answered tables_of tables_in header_of contract_at account_at first le or_else pick
+    take_number record_fault brokers_wrong fields_fault has_contract has_account contract_of is_in contract_place
+    account_place record_length record_good record_of answered tables_of tables_in header_of contract_at account_at
+    first le or_else pick
 trades_go book out len = record { numbers = refl; counts = refl; after = refl }
 
 -- ---- which ladders have an offence: that of group 3, kind 1, family 0 alone
@@ -113,10 +116,10 @@ test_is false false e = refl
 
 -- computed for each of the 6,144
 one_tested : every (λ l. pick (eqb l place) (offends verdict l) (not (offends verdict l))) (ladders (kinds_of 1)) ≡ true
-unfolding worked_records worked_tables tables_for trade_on kinds_of kinds_in first_kind verdict_on offends lowest_on lowest
-    reached_at family_of times_on times_of how_many counts_for counts_as plan_of plan_for group_of group_in contract_of is_in
-    contract_place account_place record_of tables_of tables_in header_of contract_at account_at family enough exempt known
-    by_three first every le pick
+unfolding worked_records worked_tables tables_for trade_on kinds_of kinds_in first_kind verdict_on offends lowest_on
+    lowest reached_at family_of times_on times_of how_many counts_for counts_as plan_of plan_for group_of group_in
+    contract_of is_in contract_place account_place record_of tables_of tables_in header_of contract_at account_at
+    family enough exempt known by_three first every le pick
 one_tested = refl
 
 one_hit : (l : ℕ) → l < ladders (kinds_of 1) → offends verdict l ≡ eqb l place
@@ -176,13 +179,14 @@ text_at l total =
 
 -- computed by its total, as 12,304 bytes of book are too many
 text_is : text_at place 2 ≡ worked_finding
-unfolding worked_finding worked_records worked_tables tables_for trade_on kinds_of kinds_in first_kind finding bytes sanction
-    rung member_on has_member verdict_on lowest_on lowest reached_at family_of times_on times_of how_many counts_for counts_as
-    plan_of plan_for group_of group_in contract_of is_in contract_place account_place record_of tables_of tables_in header_of
-    contract_at account_at family enough exempt known by_three first some every le pick
+unfolding worked_finding worked_records worked_tables tables_for trade_on kinds_of kinds_in first_kind finding bytes
+    sanction rung member_on has_member verdict_on lowest_on lowest reached_at family_of times_on times_of how_many
+    counts_for counts_as plan_of plan_for group_of group_in contract_of is_in contract_place account_place record_of
+    tables_of tables_in header_of contract_at account_at family enough exempt known by_three first some every le pick
 text_is = refl
 
-found_is : (l : ℕ) → l < ladders (kinds_of 1) → found_at verdict 20240305 before l ≡ pick (eqb l place) worked_finding []
+found_is : (l : ℕ) → l < ladders (kinds_of 1) → found_at verdict 20240305 before l
+    ≡ pick (eqb l place) worked_finding []
 unfolding found_at sanction_at pick
 found_is l h = rw (total_is l h, one_hit l h, kinds_are, shape_is.1) (go (eqb l place) refl)
   where
@@ -285,17 +289,17 @@ worked =
 -- ---- the refusals between
 -- computed, as the book has no bytes; and as no call here comes to the book
 no_book_lem : numbers_on no_book no_book_steps ≡ 10 ∷ 10 ∷ 10 ∷ 17 ∷ 4 ∷ 17 ∷ 2 ∷ 17 ∷ []
-unfolding no_book no_book_steps wrong_mark worked_tables tables_for numbers_on rules rule open_ruled handed_fault fits_fault
-    sound_as day_shape kinds_of kinds_in log_fault head_fault entries_fault header_of contracts_good accounts_good contract_at
-    account_at id_before number_before real_day month_days fresh_fault_as fresh_book ask_answer_as ask_fault_as answered every le
-    or_else pick
+unfolding no_book no_book_steps wrong_mark worked_tables tables_for numbers_on rules rule open_ruled handed_fault
+    fits_fault sound_as day_shape kinds_of kinds_in log_fault head_fault entries_fault header_of contracts_good
+    accounts_good contract_at account_at id_before number_before real_day month_days fresh_fault_as fresh_book
+    ask_answer_as ask_fault_as answered every le or_else pick
 no_book_lem = refl
 
 day_open : (p : Paper) → numbers_on (just_opened p) open_steps ≡ 10 ∷ 1 ∷ 11 ∷ 12 ∷ 13 ∷ 0 ∷ 15 ∷ 0 ∷ 10 ∷ []
-unfolding just_opened open_steps worked_tables tables_for trade_on end_row numbers_on rules rule take_ruled take_number end_ruled
-    end_refusal row_fault end_good record_fault brokers_wrong fields_fault has_contract has_account contract_of is_in
-    contract_place account_place record_length record_good record_of answered tables_of tables_in header_of contract_at
-    account_at first le or_else pick
+unfolding just_opened open_steps worked_tables tables_for trade_on end_row numbers_on rules rule take_ruled
+    take_number end_ruled end_refusal row_fault end_good record_fault brokers_wrong fields_fault has_contract
+    has_account contract_of is_in contract_place account_place record_length record_good record_of answered tables_of
+    tables_in header_of contract_at account_at first le or_else pick
 day_open p = refl
 
 -- the trades with a record of type 3 between
@@ -303,10 +307,12 @@ trades_refused : (book out : List ℕ) (len : ℕ)
     → Goes (paper (during worked_tables []) book out len)
     (take_record (trade_row 11 12) ∷ take_record (trade_row 11 12) ∷ take_record (end_row 2)
     ∷ take_record (trade_row 11 12) ∷ take_record (trade_row 11 12) ∷ take_record (trade_row 12 12) ∷ [])
-    (0 ∷ 0 ∷ 11 ∷ 0 ∷ 0 ∷ 0 ∷ []) (0 ∷ 0 ∷ 0 ∷ 0 ∷ 0 ∷ 0 ∷ []) (paper (during worked_tables worked_records) book out len)
-unfolding worked_records worked_tables tables_for trade_on end_row numbers_on rules paper_after rule take_ruled take_number
-    record_fault brokers_wrong fields_fault has_contract has_account contract_of is_in contract_place account_place record_length
-    record_good record_of answered tables_of tables_in header_of contract_at account_at first le or_else pick
+    (0 ∷ 0 ∷ 11 ∷ 0 ∷ 0 ∷ 0 ∷ []) (0 ∷ 0 ∷ 0 ∷ 0 ∷ 0 ∷ 0
+    ∷ []) (paper (during worked_tables worked_records) book out len)
+unfolding worked_records worked_tables tables_for trade_on end_row numbers_on rules paper_after rule take_ruled
+    take_number record_fault brokers_wrong fields_fault has_contract has_account contract_of is_in contract_place
+    account_place record_length record_good record_of answered tables_of tables_in header_of contract_at account_at
+    first le or_else pick
 trades_refused book out len = record { numbers = refl; counts = refl; after = refl }
 
 lends : (p : Paper) (out : List ℕ)

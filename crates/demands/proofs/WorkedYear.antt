@@ -126,10 +126,10 @@ module _ (g : ℕ) where
   first_day : log_fault (year_tables 2 g) ≡ 0
       → DayGood (year_tables 2 g) first_trades (0 ∷ 0 ∷ 0 ∷ 0 ∷ 12 ∷ 0 ∷ []) (0 ∷ 0 ∷ 0 ∷ 0 ∷ 0 ∷ 0 ∷ [])
       first_records 20240102
-  unfolding first_trades first_records year_tables tables_for trade_on end_row numbers_on rules paper_after rule take_ruled
-      take_number record_fault brokers_wrong fields_fault has_contract has_account contract_of is_in contract_place account_place
-      record_length record_good record_of answered tables_of tables_in header_of contract_at account_at row_fault end_good first
-      le or_else pick
+  unfolding first_trades first_records year_tables tables_for trade_on end_row numbers_on rules paper_after rule
+      take_ruled take_number record_fault brokers_wrong fields_fault has_contract has_account contract_of is_in
+      contract_place account_place record_length record_good record_of answered tables_of tables_in header_of
+      contract_at account_at row_fault end_good first le or_else pick
   first_day e =
       record {
         good = e;
@@ -141,11 +141,12 @@ module _ (g : ℕ) where
       }
 
   second_day : log_fault (year_tables 3 g) ≡ 0
-      → DayGood (year_tables 3 g) second_trades (0 ∷ 0 ∷ 0 ∷ 0 ∷ 0 ∷ []) (0 ∷ 0 ∷ 0 ∷ 0 ∷ 0 ∷ []) second_records 20240103
-  unfolding second_trades second_records year_tables tables_for trade_on end_row numbers_on rules paper_after rule take_ruled
-      take_number record_fault brokers_wrong fields_fault has_contract has_account contract_of is_in contract_place account_place
-      record_length record_good record_of answered tables_of tables_in header_of contract_at account_at row_fault end_good first
-      le or_else pick
+      → DayGood (year_tables 3 g) second_trades (0 ∷ 0 ∷ 0 ∷ 0 ∷ 0 ∷ []) (0 ∷ 0 ∷ 0 ∷ 0 ∷ 0
+      ∷ []) second_records 20240103
+  unfolding second_trades second_records year_tables tables_for trade_on end_row numbers_on rules paper_after rule
+      take_ruled take_number record_fault brokers_wrong fields_fault has_contract has_account contract_of is_in
+      contract_place account_place record_length record_good record_of answered tables_of tables_in header_of
+      contract_at account_at row_fault end_good first le or_else pick
   second_day e =
       record {
         good = e;
@@ -222,10 +223,10 @@ offences : (offence_days 2024 (selfs 3) (all_written (year_days 3)) ≡ 1)
     × (offence_days 2024 (selfs 4) (all_written (year_days 3)) ≡ 0)
     × (offence_days 2024 (selfs 3) (all_written (year_days 4)) ≡ 0)
     × (offence_days 2024 (selfs 4) (all_written (year_days 4)) ≡ 2)
-unfolding year_tables tables_for trade_on first_records second_records offence_days offence_on offends verdict_on lowest_on
-    lowest reached_at times_on times_of how_many family_of counts_for counts_as plan_of plan_for group_of group_in contract_of is_in
-    contract_place account_place kinds_of kinds_in first_kind record_of tables_of tables_in header_of contract_at account_at
-    family enough exempt known by_three first some every le pick
+unfolding year_tables tables_for trade_on first_records second_records offence_days offence_on offends verdict_on
+    lowest_on lowest reached_at times_on times_of how_many family_of counts_for counts_as plan_of plan_for group_of
+    group_in contract_of is_in contract_place account_place kinds_of kinds_in first_kind record_of tables_of tables_in
+    header_of contract_at account_at family enough exempt known by_three first some every le pick
 offences = (refl, refl, refl, refl)
 
 -- ---- the year joined

@@ -78,7 +78,11 @@ at p course = record { course = course; book = p.book; out = p.out; len = p.len 
 
 unfoldable pub open_ruled : Paper → List ℕ → ℕ → Ruled
 open_ruled p log fault =
-    record { reply = moved (moved_by fault (Open (day_in log []))); after = pick (eqb fault 0) (at p (during log [])) p }
+    record {
+      reply = moved (moved_by fault (Open (day_in log [])));
+      after = pick (eqb fault 0)
+          (at p (during log [])) p;
+    }
 
 -- a record that is taken passes on the clauses of its own codes (02, K5)
 unfoldable pub take_ruled : Paper → List ℕ → List Record → List ℕ → ℕ → Ruled

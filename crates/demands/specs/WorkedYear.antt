@@ -24,7 +24,8 @@ year_desk = clerk_desk (blank 1)
 -- 2 January: four trades 11 to 12; a record with contract 102, which is refused; and one trade 11 to 11
 unfoldable pub first_trades : List Step
 first_trades =
-    replicate 4 (take_record (trade_row 11 12)) ++ (take_record (trade_on 102 11 12) ∷ take_record (trade_row 11 11) ∷ [])
+    replicate 4 (take_record (trade_row 11 12))
+    ++ (take_record (trade_on 102 11 12) ∷ take_record (trade_row 11 11) ∷ [])
 
 -- 3 January: five trades 11 to 11
 unfoldable pub second_trades : List Step
@@ -57,7 +58,7 @@ pub record WorkedYear : Type 0 where
   -- each call gets the number that it had: contract 102 is refused with 12, and no other call is refused
   pub same_numbers : SameNumbers given given'
   pub numbered : numbers given ≡ 0 ∷ 0 ∷ 0 ∷ 0 ∷ 0 ∷ 12 ∷ 0 ∷ 0 ∷ 0 ∷ 0 ∷ 0 ∷ 0 ∷ 0 ∷ 0 ∷ 0 ∷ []
-  -- before: of group 3 the second day is an offence, and the first, with one self_trade, is not; group 4 has none
+  -- before: of group 3 the second day is an offence, and the first, with one self-trade, is not; group 4 has none
   pub before_3 : self_total (left year_desk given).book 3 ≡ 1
   pub before_4 : self_total (left year_desk given).book 4 ≡ 0
   -- after: the first day's four trades 11 to 12 count too, and both days are offences; group 3 has none any more

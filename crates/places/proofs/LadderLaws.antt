@@ -98,7 +98,8 @@ cell_in_lem k i h = record {
   last_place = omega arith;
 }
 
-pub cell_is : (k : Kinds) (i : ℕ) → i ≡ cell_of k (i / (32 * kinds_in k) + 1) (i / 32 % kinds_in k + first_kind k) (i % 32)
+pub cell_is : (k : Kinds) (i : ℕ) → i
+    ≡ cell_of k (i / (32 * kinds_in k) + 1) (i / 32 % kinds_in k + first_kind k) (i % 32)
 unfolding kinds_in first_kind
 cell_is One i = omega arith
 cell_is Three i = omega arith

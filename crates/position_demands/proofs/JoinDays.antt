@@ -16,7 +16,7 @@ use Rattle.rules.specs.declared.measure.Lots.{Lots}
 use Rattle.rules.specs.declared.kinds.Kinds.TheVariants.{One}
 use Rattle.rules.specs.Limits.{held, over_limit}
 use Rattle.rules.specs.Ladders.{family}
-use Rattle.places.specs.Places.{ladders, ladder_of, group_at, family_at, HasLadder}
+use Rattle.places.specs.Places.{ladder_of, group_at, family_at, HasLadder}
 use Rattle.places.proofs.LadderLaws.{group_of, family_of_lem}
 use Rattle.tables.specs.Accounts.{group_in, group_size}
 use Rattle.joining.specs.Joining.{joined}
@@ -29,7 +29,8 @@ use Rattle.positions.specs.declared.records.Position.{Position}
 use Rattle.positions.specs.Books.{position_shape}
 use Rattle.positions.specs.LimitEntries.{limit_place}
 use Rattle.positions.specs.Log.{Positions}
-use Rattle.positions.specs.Offences.{group_on, place_on, is_of, held_of, long_of, short_of, over_either, is_many, family_of}
+use Rattle.positions.specs.Offences.{group_on, place_on, is_of, held_of, long_of, short_of, over_either, is_many}
+use Rattle.positions.specs.Offences.{family_of}
 use Rattle.positions.specs.Offences.{over_on, offence, lowest_on, verdict_on}
 use Rattle.position_demands.specs.Join.{Joined}
 use Rattle.position_demands.specs.Demand3.{Added}

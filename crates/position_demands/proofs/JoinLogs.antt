@@ -82,7 +82,8 @@ module _ (a b : ℕ) (two : Two a b) (log : List ℕ) where
   unfolding log_fault
   fault_same =
       ap₂ or_else front_same
-      (ap (λ (x : Header). pick (not (records_good (limits_part x new) (accounts_part x new) (records_part x new))) 22 0)
+      (ap (λ (x : Header). pick (not (records_good (limits_part x new) (accounts_part x new) (records_part x new)))
+      22 0)
       header_stands
       ∙ ap (λ (t : Bool). pick (not t) 22 0) records_same)
 

@@ -59,7 +59,8 @@ module _ (a b : ℕ) (two : Two a b) where
   pub day_same : (log : List ℕ) → SameDay a b (log_day log) (log_day (join_log a b log))
   day_same log = record {
     date = ap (λ (x : Header). x.date) (header_stands a b two log);
-    verdict = verdict_joined a b two (positions_of log) (positions_of (join_log a b log)) (positions_joined a b two log);
+    verdict = verdict_joined a b two (positions_of log) (positions_of (join_log a b log))
+        (positions_joined a b two log);
   }
 
   pub days_same : (logs : List (List ℕ)) → SameDays a b (map log_day logs) (map log_day (map (join_log a b) logs))

@@ -106,7 +106,8 @@ module _ (text : Text) (contracts accounts records : List ℕ) (few : limit_coun
 
   -- a record's cell is the ladder's on a contract where it is of the ladder's group and on that contract
   own_cell : (l c k : ℕ) → l < ladders One → c < 32 → k < record_count records
-      → eqb (cell_at contracts accounts records k) (l / 16 * 32 + c) ≡ is_of day (group_at One l) c (position_at records k)
+      → eqb (cell_at contracts accounts records k) (l / 16 * 32 + c)
+      ≡ is_of day (group_at One l) c (position_at records k)
   unfolding cell_at is_of group_on place_on positions_in
   own_cell l c k h w m =
       let r = position_at records k in
@@ -233,7 +234,8 @@ module _ (text : Text) (contracts accounts records : List ℕ) (few : limit_coun
 -- ---- of a log without fault
 module _ (h : Header) (log : List ℕ) (e : h ≡ header_of log) (q : GoodPositions h log)
     (all : records_good (limits_part h log) (accounts_part h log) (records_part h log) ≡ true) where
-  positions_are : positions_in (text_of h) (limits_part h log) (accounts_part h log) (records_part h log) ≡ positions_of log
+  positions_are : positions_in (text_of h) (limits_part h log) (accounts_part h log) (records_part h log)
+      ≡ positions_of log
   unfolding positions_of
   positions_are = rw e
 

@@ -1,6 +1,7 @@
 -- The way, not the meaning: sums kept in cells, and a day's verdict as bytes. proofs/SumLaws and proofs/VerdictLaws
 -- show that they are specs/Offences.
-use Rattle.std.specs.Prelude.{ℕ, zero, suc, ◌+◌, ◌*◌, ◌/◌, Bool, ◌&&◌, List, ◌∷◌, [], ltb, eqb, length, get_or, set, replicate}
+use Rattle.std.specs.Prelude.{ℕ, zero, suc, ◌+◌, ◌*◌, ◌/◌, Bool, ◌&&◌, List, ◌∷◌, [], ltb, eqb, length, get_or, set}
+use Rattle.std.specs.Prelude.{replicate}
 use Rattle.wire.specs.Choice.{pick}
 use Rattle.wire.specs.Below.{first}
 use Rattle.wire.specs.Bytes.{bytes}
@@ -94,5 +95,6 @@ module _ (text : Text) (contracts fams longs shorts : List ℕ) where
 -- those of a log
 abbrev pub log_places : Header → List ℕ → List ℕ
 log_places h log =
-    places_in (text_of h) (limits_part h log) (families_in (text_of h) (limits_part h log)) (long_in h log) (short_in h log)
+    places_in (text_of h) (limits_part h log) (families_in (text_of h) (limits_part h log)) (long_in h log)
+    (short_in h log)
     (sizes_in (accounts_part h log))

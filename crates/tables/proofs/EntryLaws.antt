@@ -93,7 +93,8 @@ unfolding found_contract pick
 values_found s id = go (ltb (contract_place (contract_at s) (entries s) id) (entries s))
   where
     at : Found
-    at = At (contract_place (contract_at s) (entries s) id) (contract_at s (contract_place (contract_at s) (entries s) id))
+    at = At (contract_place (contract_at s) (entries s) id)
+        (contract_at s (contract_place (contract_at s) (entries s) id))
 
     go : (t : Bool) → (is_found (pick t at Nothing) ≡ t) × (place_found (pick t at Nothing) ≡ pick t (place_found at) 0)
     go true = (refl, refl)

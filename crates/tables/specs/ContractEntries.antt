@@ -38,7 +38,8 @@ contracts_good text s = every (contract_good_at text s) (entries s)
 
 -- the entry at a place, and one of zeros past the end
 unfoldable pub contract_in : List ℕ → ℕ → Contract
-contract_in s k = pick (ltb k (entries s)) (contract_at s k) (record { id = 0; sort = 0; product = 0; largest = lots 0 })
+contract_in s k = pick (ltb k (entries s)) (contract_at s k)
+    (record { id = 0; sort = 0; product = 0; largest = lots 0 })
 
 -- the place of a contract id, or the number of entries where it is not there
 unfoldable pub contract_place : (ℕ → Contract) → (contracts id : ℕ) → ℕ

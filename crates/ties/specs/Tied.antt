@@ -7,7 +7,8 @@ use Rattle.desk.specs.declared.state.State.{State}
 use Rattle.desk.specs.declared.state.Answer.{Answer}
 use Rattle.desk.specs.declared.take.Taken.{Taken}
 use Rattle.desk.specs.declared.end.Ended.{Ended}
-use Rattle.demands.specs.Calls.{make_book, open_day, take_record, end_day, abandon_day, ask_book, made, moved, took, ended}
+use Rattle.demands.specs.Calls.{make_book, open_day, take_record, end_day, abandon_day, ask_book, made, moved, took}
+use Rattle.demands.specs.Calls.{ended}
 use Rattle.demands.specs.Calls.{told, desk_of, state_after, log_after, take_state, end_state, Gives}
 
 -- a fresh book: the answer, and the book

@@ -1,6 +1,6 @@
 -- 01, "Ladders" and "The calls and their refusals": a day's findings as bytes and the book after the day, from each
 -- ladder's lowest place.
-use Rattle.std.specs.Prelude.{ℕ, ◌+◌, ◌-◌, ◌*◌, ◌/◌, Bool, ltb, eqb, length, get_or}
+use Rattle.std.specs.Prelude.{ℕ, ◌-◌, ◌*◌, ◌/◌, Bool, ltb, eqb, length, get_or}
 use mathlib.Core.List.{List, [], ◌∷◌, ◌++◌}
 use Rattle.wire.specs.Choice.{pick}
 use Rattle.wire.specs.Below.{count}

@@ -10,7 +10,8 @@ use native.Mathlib.Omega.{arith}
 use borrow.Author.Tests.{le-leb, lt-leb}
 use lib.ListN.{length, get_or, take, drop, set, length-append, length-take, length-drop, take-append-drop}
 use lib.ListN.{drop_of_length-le, get_or-append}
-use lib.Seq.{take_at, drop_at, drop-drop, get_or-take, get_or-drop, get_or-append-add, length-take-le, drop-length, sets}
+use lib.Seq.{take_at, drop_at, drop-drop, get_or-take, get_or-drop, get_or-append-add, length-take-le, drop-length}
+use lib.Seq.{sets}
 use lib.Seq.{sets-eq}
 use Rattle.wire.specs.Bytes.{le, bytes}
 use Rattle.wire.specs.Buffers.{put, put_in, rows}
@@ -80,7 +81,8 @@ module _ (s : List ℕ) (at : ℕ) (p : List ℕ) (h : at + length p ≤ length 
   pub get_or_put_after : (k : ℕ) → get_or (put s at p) (at + length p + k) 0 ≡ get_or s (at + length p + k) 0
   unfolding put
   get_or_put_after k =
-      ap (λ (n : ℕ). get_or (take at s ++ (p ++ drop (at + length p) s)) n 0) (place (length-take-le at s (omega arith)))
+      ap (λ (n : ℕ). get_or (take at s ++ (p ++ drop (at + length p) s)) n 0)
+      (place (length-take-le at s (omega arith)))
       ∙ get_or-append-add (take at s) (p ++ drop (at + length p) s) (length p + k) 0
       ∙ get_or-append-add p (drop (at + length p) s) k 0 ∙ get_or-drop (at + length p) s k 0
     where

@@ -106,7 +106,8 @@ pub or_assoc : (a b c : ℕ) → or_else (or_else a b) c ≡ or_else a (or_else 
 or_assoc a b c = go (eqb a 0) refl
   where
     go : (t : Bool) → eqb a 0 ≡ t → or_else (or_else a b) c ≡ or_else a (or_else b c)
-    go true e = let z = eqb-true a 0 e in ap (λ (n : ℕ). or_else n c) (or_else_lem a b z) ∙ sym (or_else_lem a (or_else b c) z)
+    go true e = let z = eqb-true a 0 e in ap (λ (n : ℕ). or_else n c) (or_else_lem a b z)
+        ∙ sym (or_else_lem a (or_else b c) z)
     go false e =
         let n = eqb-false a 0 e in
         ap (λ (m : ℕ). or_else m c) (or_first a b n) ∙ or_first a c n ∙ sym (or_first a (or_else b c) n)

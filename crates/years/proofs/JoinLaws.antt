@@ -71,7 +71,8 @@ module _ {a b : ℕ} {v v' : Verdict} (j : VerdictJoined a b v v') (l : ℕ) (le
     unfolding offends
     offends_other = ap₂ ltb (j.lowest l less o) j.contracts
 
-    found_other : (date : ℕ) (book book' : List ℕ) → last_date book' ≡ last_date book → total_at book' l ≡ total_at book l
+    found_other : (date : ℕ) (book book' : List ℕ) → last_date book' ≡ last_date book → total_at book' l
+        ≡ total_at book l
         → found_at v' date book' l ≡ found_at v date book l
     found_other date book book' same-date same_total =
         found_is l v' date book'
@@ -226,7 +227,8 @@ module _ (a b : ℕ) (two : Two a b) (shape : Shape) (from : List ℕ) (hard : (
   days_joined w w' (more j s) =
       let l = last_day w in
       let l' = last_day w' in
-      more_joined (day_joined (kept l.written) (kept l'.written) s l.allowed.shaped j) (days_joined l.written l'.written s)
+      more_joined (day_joined (kept l.written) (kept l'.written) s l.allowed.shaped j)
+      (days_joined l.written l'.written s)
 
   -- group g's offences of a kind in a family stay as b's: then b has no fewer days, and so no fewer restrictions
   module _ {book book' : List ℕ} {days days' : List WrittenDay} (k : Kept shape from days book)

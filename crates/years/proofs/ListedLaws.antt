@@ -26,7 +26,8 @@ unfolding finding
 named_by kinds bs j ladder sanction' total id e =
     let g : get_or bs (8 * j) 0 ≡ group_at kinds ladder = part_at 8 (8 * j) (8 * j) 0 bs _ e (omega arith)
     (omega arith) in
-    let k : get_or bs (8 * j + 1) 0 ≡ kind_at kinds ladder = part_at 8 (8 * j) (8 * j + 1) 1 bs _ e refl (omega arith) in
+    let k : get_or bs (8 * j + 1) 0
+    ≡ kind_at kinds ladder = part_at 8 (8 * j) (8 * j + 1) 1 bs _ e refl (omega arith) in
     let f : get_or bs (8 * j + 2) 0 ≡ family_at ladder = part_at 8 (8 * j) (8 * j + 2) 2 bs _ e refl (omega arith) in
     rw (g, k, f) (ladder_of_lem kinds ladder)
 

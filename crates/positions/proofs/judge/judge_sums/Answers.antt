@@ -37,7 +37,7 @@ returns c =
     settled a.log.now a.book.now a.out.now _ c.header_of-h.ensures (sym read.value ∙ left)
     (λ j. omega (
       arith,
-      c.shared_slice_known-1.given j,
+      c.type_inv.log j,
     )) _ c.position_shape.ensures
     (sym c.fits_fault-second.ensures
     ∙ c.if-second-ne0.false) (read.sums_after left).0

@@ -17,19 +17,22 @@ returns-then-fault-ne0 c =
 
 pub slice_bounds-add_records-end : goal.slice_bounds-add_records-end
 slice_bounds-add_records-end c =
-    let q = front_good c.args.log.now _ c.header_of-h.ensures (sym c.front_fault-fault.ensures ∙ c.if-fault-ne0.false) in
+    let q = front_good c.args.log.now _ c.header_of-h.ensures (sym c.front_fault-fault.ensures
+    ∙ c.if-fault-ne0.false) in
     let w = q.whole in
     search rules
 
 pub slice_bounds-add_records-end-2 : goal.slice_bounds-add_records-end-2
 slice_bounds-add_records-end-2 c =
-    let q = front_good c.args.log.now _ c.header_of-h.ensures (sym c.front_fault-fault.ensures ∙ c.if-fault-ne0.false) in
+    let q = front_good c.args.log.now _ c.header_of-h.ensures (sym c.front_fault-fault.ensures
+    ∙ c.if-fault-ne0.false) in
     let w = q.whole in
     search rules
 
 pub slice_bounds-add_records-start-3 : goal.slice_bounds-add_records-start-3
 slice_bounds-add_records-start-3 c =
-    let q = front_good c.args.log.now _ c.header_of-h.ensures (sym c.front_fault-fault.ensures ∙ c.if-fault-ne0.false) in
+    let q = front_good c.args.log.now _ c.header_of-h.ensures (sym c.front_fault-fault.ensures
+    ∙ c.if-fault-ne0.false) in
     let w = q.whole in
     search rules
 

@@ -1,9 +1,9 @@
-use mathlib.Core.Path.{◌≡◌, ◌∙◌, ap}
+use mathlib.Core.Path.{◌∙◌, ap}
 use Prim.Native.Nat.{◌*◌}
 use Rattle.wire.proofs.PartLaws.{part_of}
 use Rattle.tables.specs.Accounts.{accounts_good}
 use Rattle.positions.specs.LimitEntries.{limits_good}
-use Rattle.positions.specs.Log.{accounts_from, limits_part, accounts_part, tables_fault}
+use Rattle.positions.specs.Log.{accounts_from, tables_fault}
 use Rattle.wire.proofs.ChoiceLaws.{chain}
 use Rattle.positions.proofs.log.tables_fault.Goals as goal
 

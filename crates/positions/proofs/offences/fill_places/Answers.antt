@@ -1,5 +1,4 @@
 use mathlib.Core.Path.{refl, ◌∙◌}
-use Prim.Native.Nat.{◌-◌}
 use native.Mathlib.Omega.{arith}
 use Rattle.wire.proofs.BufferLaws.{no_rows}
 use Rattle.wire.proofs.TurnLaws.{byte_turn, bytes_all}

@@ -1,6 +1,4 @@
 use mathlib.Core.Path.{◌≡◌, refl, ap, ◌∙◌}
-use mathlib.Core.Bool.{true}
-use Prim.Native.Nat.{◌-◌}
 use native.Mathlib.Omega.{arith}
 use Rattle.wire.proofs.BelowLaws.{every_none, every_more}
 use Rattle.positions.specs.Records.{record_count, contract_before, account_before}
@@ -33,7 +31,8 @@ next_place-place-requires c = c.loop-k.invariant.3
 
 pub returns-then-not-fields_good-place : goal.returns-then-not-fields_good-place
 returns-then-not-fields_good-place c =
-    let look : Looked c.args.contracts.now c.args.accounts.now c.args.records.now c.requires.1 c.loop-k.k c.loop-k.contract
+    let look : Looked c.args.contracts.now c.args.accounts.now c.args.records.now c.requires.1 c.loop-k.k
+    c.loop-k.contract
     c.loop-k.account c.position_at-r.result c.next_place-place.result c.find_account-entry.result.now =
     record {
       own = c.position_at-r.ensures;
@@ -54,7 +53,8 @@ returns-then-not-fields_good-place c =
 
 pub overflow_cast-place : goal.overflow_cast-place
 overflow_cast-place c =
-    let look : Looked c.args.contracts.now c.args.accounts.now c.args.records.now c.requires.1 c.loop-k.k c.loop-k.contract
+    let look : Looked c.args.contracts.now c.args.accounts.now c.args.records.now c.requires.1 c.loop-k.k
+    c.loop-k.contract
     c.loop-k.account c.position_at-r.result c.next_place-place.result c.find_account-entry.result.now =
     record {
       own = c.position_at-r.ensures;
@@ -82,7 +82,7 @@ add-requires c =
           c.requires.1 (λ r. r.long)
           (long_most a.records.now (λ i. omega (
             arith,
-            c.shared_slice_known-3-1.given i,
+            c.type_inv.records i,
           ))) l.k
           c.cell_of-cell.result l.invariant.5,
       c.requires.2,
@@ -99,7 +99,7 @@ add-requires-in-loop-k c =
           (λ r. r.short)
           (short_most a.records.now (λ i. omega (
             arith,
-            c.shared_slice_known-3-1.given i,
+            c.type_inv.records i,
           ))) l.k
           c.cell_of-cell.result l.invariant.6,
       c.requires.2,
@@ -114,7 +114,8 @@ overflow_step-k c =
 
 pub loop-k-preserved : goal.loop-k-preserved
 loop-k-preserved c =
-    let look : Looked c.args.contracts.now c.args.accounts.now c.args.records.now c.requires.1 c.loop-k.k c.loop-k.contract
+    let look : Looked c.args.contracts.now c.args.accounts.now c.args.records.now c.requires.1 c.loop-k.k
+    c.loop-k.contract
     c.loop-k.account c.position_at-r.result c.next_place-place.result c.find_account-entry.result.now =
     record {
       own = c.position_at-r.ensures;

@@ -10,10 +10,10 @@ unfolding next_total
 returns c =
     ap₂ (λ a b. (a + b) % 65536)
     (elim c.if-later.branch [
-        then-later w ↦ pick_yes _ _ _ _ w.if-later.true w.start-is
+      | then-later w ↦ pick_yes _ _ _ _ w.if-later.true w.start-is
       | else-later w ↦ pick_no _ _ _ _ w.if-later.false w.start-is
     ])
     (elim c.if-hit.branch [
-        then-hit w ↦ pick_yes _ _ _ _ w.if-hit.true w.one-is
+      | then-hit w ↦ pick_yes _ _ _ _ w.if-hit.true w.one-is
       | else-hit w ↦ pick_no _ _ _ _ w.if-hit.false w.one-is
     ])

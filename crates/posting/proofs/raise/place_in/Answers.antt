@@ -3,7 +3,7 @@ use Rattle.posting.proofs.WriteLaws.{place_there, place_past}
 use Rattle.posting.proofs.raise.place_in.Goals as goal
 
 pub overflow_cast-result : goal.overflow_cast-result
-overflow_cast-result c = omega (arith, c.shared_slice_known-1.given c.args.ladder)
+overflow_cast-result c = omega (arith, c.type_inv.places c.args.ladder)
 
 pub returns-then-ladder-places : goal.returns-then-ladder-places
 returns-then-ladder-places c = place_there _ _ c.if-ladder-places.true

@@ -9,7 +9,8 @@ use Rattle.posting.proofs.raise.raise_group.Given as goal
 abbrev pub invariant-loop-j : goal.invariant-loop-j
 invariant-loop-j l =
     (l.j ≤ length l.initial.part / 2) × (length l.part ≡ length l.initial.part)
-    × (l.part ≡ put l.initial.part 0 (rows (λ k. bytes 2 (total_after l.initial.part l.later l.places l.from l.contracts k)) l.j))
+    × (l.part ≡ put l.initial.part 0
+    (rows (λ k. bytes 2 (total_after l.initial.part l.later l.places l.from l.contracts k)) l.j))
 
 abbrev pub decreases-loop-j : goal.decreases-loop-j
 decreases-loop-j l = length l.initial.part / 2 - l.j

@@ -19,26 +19,33 @@ five kind rulebook r e = ap (λ t. eqb kind 5 && t) (sym e)
 pub returns-then-kind-known : goal.returns-then-kind-known
 unfolding sanction limit_sanction
 returns-then-kind-known c =
-    let e = five c.args.kind c.args.rulebook c.is_rulebook-known.result c.is_rulebook-known.ensures ∙ c.if-kind-known.true in
+    let e = five c.args.kind c.args.rulebook c.is_rulebook-known.result c.is_rulebook-known.ensures
+    ∙ c.if-kind-known.true in
     search chain depth 12
 
 pub returns-then-not-kind-known : goal.returns-then-not-kind-known
 unfolding sanction
 returns-then-not-kind-known c =
-    let e = five c.args.kind c.args.rulebook c.is_rulebook-known.result c.is_rulebook-known.ensures ∙ c.if-kind-known.false in
-    let f = asked c.args.kind c.args.rulebook c.is_rulebook-known.result c.is_rulebook-known.ensures ∙ c.if-not-kind-known.true in
+    let e = five c.args.kind c.args.rulebook c.is_rulebook-known.result c.is_rulebook-known.ensures
+    ∙ c.if-kind-known.false in
+    let f = asked c.args.kind c.args.rulebook c.is_rulebook-known.result c.is_rulebook-known.ensures
+    ∙ c.if-not-kind-known.true in
     search chain depth 12
 
 pub returns-then-rulebook-member : goal.returns-then-rulebook-member
 unfolding sanction
 returns-then-rulebook-member c =
-    let e = five c.args.kind c.args.rulebook c.is_rulebook-known.result c.is_rulebook-known.ensures ∙ c.if-kind-known.false in
-    let f = asked c.args.kind c.args.rulebook c.is_rulebook-known.result c.is_rulebook-known.ensures ∙ c.if-not-kind-known.false in
+    let e = five c.args.kind c.args.rulebook c.is_rulebook-known.result c.is_rulebook-known.ensures
+    ∙ c.if-kind-known.false in
+    let f = asked c.args.kind c.args.rulebook c.is_rulebook-known.result c.is_rulebook-known.ensures
+    ∙ c.if-not-kind-known.false in
     search chain depth 12
 
 pub returns : goal.returns
 unfolding sanction
 returns c =
-    let e = five c.args.kind c.args.rulebook c.is_rulebook-known.result c.is_rulebook-known.ensures ∙ c.if-kind-known.false in
-    let f = asked c.args.kind c.args.rulebook c.is_rulebook-known.result c.is_rulebook-known.ensures ∙ c.if-not-kind-known.false in
+    let e = five c.args.kind c.args.rulebook c.is_rulebook-known.result c.is_rulebook-known.ensures
+    ∙ c.if-kind-known.false in
+    let f = asked c.args.kind c.args.rulebook c.is_rulebook-known.result c.is_rulebook-known.ensures
+    ∙ c.if-not-kind-known.false in
     search chain depth 12

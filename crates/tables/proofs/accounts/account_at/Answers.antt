@@ -10,6 +10,6 @@ pub returns : goal.returns
 returns c =
     let s = c.args.part.now in
     let small : (i : ℕ) → get_or s i 0 < 256 =
-    λ i. omega (arith, c.shared_slice_known-1.given i) in
+    λ i. omega (arith, c.type_inv.part i) in
     c.account_from.ensures ∙ ap₂ account_from c.word.ensures c.word-2.ensures
     ∙ account_words s small c.args.k

@@ -1,5 +1,4 @@
 use mathlib.Core.Path.{◌≡◌, refl, sym, ◌∙◌}
-use mathlib.Core.Logic.{⊎_elim}
 use native.Mathlib.Omega.{arith}
 use Rattle.tables.specs.Accounts.{account_at}
 use Rattle.tables.specs.Way.{halved}
@@ -36,7 +35,7 @@ loop-size-preserved c =
     let l = c.loop-size in
     let e : c.if-word-number.from ≡ next a.part.now a.number l.from l.size =
     elim c.if-word-number.branch [
-        then-word-number w ↦ w.from-is ∙ next_up _ _ _ _ (omega arith)
+      | then-word-number w ↦ w.from-is ∙ next_up _ _ _ _ (omega arith)
       | else-word-number w ↦ w.from-is ∙ next_stay _ _ _ _ (omega arith)
     ] in
     rw e (

@@ -3,7 +3,7 @@ use Rattle.rules.proofs.KindLaws.{few}
 use Rattle.wire.specs.Choice.{pick}
 use lib.Dec.{ltb}
 use mathlib.Core.Path.{◌≡◌, sym, ◌∙◌, ap, ap₂}
-use Prim.Native.Nat.{◌+◌, ◌-◌}
+use Prim.Native.Nat.{◌+◌}
 use native.Mathlib.Omega.{arith}
 use Rattle.wire.specs.Below.{count}
 use Rattle.wire.proofs.BelowLaws.{count_none, count_more}

@@ -6,7 +6,7 @@ use Rattle.wire.proofs.BufferLaws.{no_rows}
 use Rattle.wire.proofs.BelowLaws.{count_none}
 use native.Mathlib.Omega.{arith}
 use mathlib.Core.Path.{◌≡◌, refl, sym, ◌∙◌}
-use Prim.Native.Nat.{◌-◌, ◌<◌, zero-le}
+use Prim.Native.Nat.{◌<◌, zero-le}
 use borrow.Author.Rules.{rules}
 use Rattle.verdict.proofs.findings.list_all.Goals as goal
 

@@ -1,8 +1,6 @@
 use Rattle.verdict.proofs.FoundLaws.{finding_written}
 use Rattle.places.proofs.LadderLaws.{group_low}
-use lib.ListN.{length-set}
 use native.Mathlib.Omega.{arith}
-use borrow.Author.Rules.{rules}
 use Rattle.verdict.proofs.findings.put_finding.Goals as goal
 
 pub overflow_cast-group : goal.overflow_cast-group

@@ -4,7 +4,7 @@ use Rattle.rules.proofs.KindLaws.{few}
 use Rattle.wire.proofs.BufferLaws.{no_rows}
 use Rattle.wire.specs.Buffers.{put, rows}
 use native.Mathlib.Omega.{arith}
-use Prim.Native.Nat.{◌-◌, ◌*◌}
+use Prim.Native.Nat.{◌*◌}
 use mathlib.Core.Path.{◌≡◌, ◌∙◌, ap}
 use borrow.Author.Rules.{rules}
 use Rattle.verdict.proofs.totals.raise_all.Goals as goal

@@ -29,7 +29,7 @@ module _ (text : Text) (e : Contract) (r : Record) where
   abbrev pub exempt2 : ℕ → Bool
   exempt2 kind = exempt text e.sort kind r.instruction2 r.purpose2
 
-  -- "A trade whose two accounts are in one group is one self_trade, unless either order is exempt"
+  -- "A trade whose two accounts are in one group is one self-trade, unless either order is exempt"
   abbrev pub self_trade : (group group2 : ℕ) → Bool
   self_trade group group2 = eqb r.sort 1 && (eqb group group2 && not (exempt1 1) && not (exempt2 1))
 
@@ -68,7 +68,7 @@ plan_of t r =
 unfoldable pub reasons_of : Tables → Record → Reasons
 reasons_of t r = reasons_for t.text (t.contract (contract_of t r.contract)) r
 
--- the kinds: 1 self_trade, 2 frequent cancel, 3 large cancel
+-- the kinds: 1 self-trade, 2 frequent cancel, 3 large cancel
 unfoldable pub counts_as : Plan → ℕ → Bool
 counts_as p kind = (eqb kind 1 && p.own) || (eqb kind 2 && p.frequent) || (eqb kind 3 && p.over)
 

@@ -1,5 +1,5 @@
 -- What the join of two groups does to the counts of a day: the two are added, and a trade between them becomes a
--- self_trade. Assumes nothing.
+-- self-trade. Assumes nothing.
 use mathlib.Core.Path.{◌≡◌, refl, sym, ap, ap₂, ◌∙◌}
 use mathlib.Core.Bool.{Bool, true, false, ◌&&◌, ◌||◌, not, and-false}
 use mathlib.Core.List.{List}
@@ -111,7 +111,7 @@ unfolding pick
 behind true p q r s e = e
 behind false p q r s e = refl
 
--- a test on two groups that is three others, among the other tests of a self_trade
+-- a test on two groups that is three others, among the other tests of a self-trade
 around : (s m1 m2 c o x o1 y o2 z w : Bool) → pick (o && x) 1 0 ≡ pick (o1 && y) 1 0 + pick (o2 && z) 1 0 + pick w 1 0
     → pick (s && (o && m1 && m2) && x && c) 1 0
     ≡ pick (s && (o1 && m1 && m2) && y && c) 1 0 + pick (s && (o2 && m1 && m2) && z && c) 1 0 + pick
@@ -232,7 +232,7 @@ module _ (a b : ℕ) (t t' : Tables) (j : Joined a b t t') (some_a : 1 ≤ a) (a
     abbrev trade : Bool
     trade = eqb r.sort 1
 
-    -- the first order, and the second, is not exempt as a self_trade
+    -- the first order, and the second, is not exempt as a self-trade
     abbrev free1 : Bool
     free1 = not (exempt1 t.text (t.contract place_of) r 1)
 

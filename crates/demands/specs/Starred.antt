@@ -36,7 +36,7 @@ plain_limit = 1
 abbrev pub countable : ℕ → ℕ
 countable rulebook = pick (eqb rulebook 1) plain_limit 5
 
--- ---- what is asked of them: are these records an offence of group 3 in family 0 (1 self_trade, 2 frequent, 3 large)
+-- ---- what is asked of them: are these records an offence of group 3 in family 0 (1 self-trade, 2 frequent, 3 large)
 -- n self-trades on a contract
 unfoldable pub self_trades : (rulebook n : ℕ) → Bool
 self_trades rulebook n = offence (day_with rulebook 1 1000) (replicate n trade) 3 1 0

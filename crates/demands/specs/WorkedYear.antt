@@ -58,7 +58,7 @@ pub record WorkedYear : Type 0 where
   -- each call gets the number that it had: contract 102 is refused with 12, and no other call is refused
   pub same_numbers : SameNumbers given given'
   pub numbered : numbers given ≡ 0 ∷ 0 ∷ 0 ∷ 0 ∷ 0 ∷ 12 ∷ 0 ∷ 0 ∷ 0 ∷ 0 ∷ 0 ∷ 0 ∷ 0 ∷ 0 ∷ 0 ∷ []
-  -- before: of group 3 the second day is an offence, and the first, with one self_trade, is not; group 4 has none
+  -- before: of group 3 the second day is an offence, and the first, with one self-trade, is not; group 4 has none
   pub before_3 : self_total (left year_desk given).book 3 ≡ 1
   pub before_4 : self_total (left year_desk given).book 4 ≡ 0
   -- after: the first day's four trades 11 to 12 count too, and both days are offences; group 3 has none any more

@@ -49,7 +49,7 @@ clause text type' kind instruction purpose =
     pick (not (known text type' kind instruction purpose)) 1
     (pick (by_instruction text kind instruction) 1 0 + pick (by_purpose text type' kind purpose) 2 0)
 
--- "for .. each kind": an order's clauses, for self_trade, frequent and large cancels
+-- "for .. each kind": an order's clauses, for self-trade, frequent and large cancels
 unfoldable pub clauses : Text → (type' instruction purpose : ℕ) → Clauses
 clauses text type' instruction purpose = record {
   own = clause text type' 1 instruction purpose;

@@ -78,7 +78,8 @@ fn create_new(rt: &HostRuntime, name: &mut [u8], at: usize) -> io::Result<File>
 }
 
 // Makes a file whose name is made up where `name` has XXXXXX at its end, and answers it, or why it cannot be made. It
-// has owner, group and mode of the file `like` where these can be given, and else only its maker can read it.
+// has owner, group and mode of the file `like` where these can be given, and else only its maker can read it. After an
+// error the name has its XXXXXX again.
 pub fn make_beside(rt: &HostRuntime, name: &mut [u8], like: &[u8]) -> io::Result<File>
     ensures { length name.new ≡ length name.old }
 {
@@ -86,9 +87,16 @@ pub fn make_beside(rt: &HostRuntime, name: &mut [u8], like: &[u8]) -> io::Result
         return Err(io::Error::from_raw_os_error(EINVAL));
     }
     let at = name.len() - BLANKS.len();
-    let file = create_new(rt, name, at)?;
-    if let Ok(known) = known_of(rt, like) {
-        make_like(&file, &known);
+    match create_new(rt, name, at) {
+        Ok(file) => {
+            if let Ok(known) = known_of(rt, like) {
+                make_like(&file, &known);
+            }
+            Ok(file)
+        }
+        Err(e) => {
+            name[at..].fill(b'X');
+            Err(e)
+        }
     }
-    Ok(file)
 }

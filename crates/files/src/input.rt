@@ -1,5 +1,6 @@
 // Reading: a buffer is filled whatever the size of the drops in which the bytes come.
-ghost use Rattle.std.specs.Prelude.{◌≤◌, length, IfOk};
+ghost use Rattle.std.specs.Prelude.{◌≤◌, length, take, IfOk};
+ghost use Rattle.std.specs.Io.KnownBytes.{Consumes};
 
 use crate::TRIES;
 use crate::known::{known_of, text_of};
@@ -18,7 +19,8 @@ pub struct Got {
 
 // One read; where a signal cut it off before a byte came, it is made again.
 fn read_some<R: Read>(from: &mut R, part: &mut [u8]) -> Got
-    ensures { result.count ≤ length part.new }
+    ensures count { result.count ≤ length part.new }
+    ensures bytes { Consumes (R.remaining from.old) (R.remaining from.new) (take result.count part.new) }
 {
     let mut why = io::Error::from(ErrorKind::Interrupted);
     for _ in 0..TRIES {
@@ -43,9 +45,11 @@ fn read_some<R: Read>(from: &mut R, part: &mut [u8]) -> Got
     }
 }
 
-// Reads until the buffer is full, the input ends or a read fails.
+// Reads until the buffer is full, the input ends or a read fails. What came stands at the buffer's start, and no more
+// than that was taken.
 pub fn fill<R: Read>(from: &mut R, buf: &mut [u8]) -> Got
-    ensures { result.count ≤ length buf.new }
+    ensures count { result.count ≤ length buf.new }
+    ensures bytes { Consumes (R.remaining from.old) (R.remaining from.new) (take result.count buf.new) }
 {
     let mut done = 0;
     while done < buf.len() {

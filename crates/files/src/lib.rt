@@ -1,5 +1,6 @@
-// Files and streams whole: what comes or goes in drops, or is cut off by a signal, is gone on with. No contract can
-// say which bytes were read or written; what is said here is what is certain all the same.
+// Files and streams whole: what comes or goes in drops, or is cut off by a signal, is gone on with. Of a reader or a
+// writer whose bytes are known the contracts say which came or went. Of the system's they cannot; what is said of those
+// is what is certain all the same.
 #![tactic(auto)]
 
 pub mod beside;

@@ -1,5 +1,6 @@
 // Writing: all of a buffer, and seen on the disk where that is asked for.
-ghost use Rattle.std.specs.Prelude.{◌≡◌, ◌≤◌, length, IsOk};
+ghost use Rattle.std.specs.Prelude.{◌≡◌, ◌≤◌, length, take, IsOk};
+ghost use Rattle.std.specs.Io.KnownBytes.{Appends};
 ghost use Rattle.files.specs.Status.{Status};
 
 use crate::TRIES;
@@ -19,7 +20,8 @@ const EINVAL: i32 = 22;
 
 // One write; where a signal cut it off before a byte went, it is made again. No bytes where it failed.
 fn write_some<W: Write>(to: &mut W, part: &[u8]) -> Got
-    ensures { result.count ≤ length part.now }
+    ensures count { result.count ≤ length part.now }
+    ensures bytes { Appends (W.contents to.old) (W.contents to.new) (take result.count part.now) }
 {
     let mut why = io::Error::from(ErrorKind::Interrupted);
     for _ in 0..TRIES {
@@ -44,9 +46,10 @@ fn write_some<W: Write>(to: &mut W, part: &[u8]) -> Got
     }
 }
 
-// How many of the bytes went: all, or fewer where a write failed, and then why.
+// How many of the bytes went, from the first on: all, or fewer where a write failed, and then why.
 pub fn put_all<W: Write>(to: &mut W, bytes: &[u8]) -> Got
-    ensures { result.count ≤ length bytes.now }
+    ensures count { result.count ≤ length bytes.now }
+    ensures bytes { Appends (W.contents to.old) (W.contents to.new) (take result.count bytes.now) }
 {
     let mut done = 0;
     while done < bytes.len() {

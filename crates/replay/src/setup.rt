@@ -21,8 +21,8 @@ pub(crate) struct Setup {
     pub(crate) positions: usize,
 }
 
-// The bytes that a step took, 0 where it breaks the rules, whether what it prints went out or why not, and the setup after
-// it.
+// The bytes that a step took, 0 where it breaks the rules, whether what it prints went out or why not, and the setup
+// after it.
 #[derive(Clone, Copy)]
 pub(crate) struct Step {
     pub(crate) used: usize,

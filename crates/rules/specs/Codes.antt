@@ -22,6 +22,6 @@ has_instruction text instruction =
 abbrev pub has_purpose : Text → ℕ → Bool
 has_purpose text purpose = within 1 4 purpose && is_rulebook text.rulebook
 
--- "What the desk judges": "1 self_trade, 2 frequent cancels, 3 large cancels"
+-- "What the desk judges": "1 self-trade, 2 frequent cancels, 3 large cancels"
 abbrev pub is_kind : ℕ → Bool
 is_kind kind = within 1 3 kind

@@ -1,4 +1,4 @@
--- 01, "What the desk judges": "Three offence kinds: 1 self_trade, 2 frequent cancels, 3 large cancels." The one place
+-- 01, "What the desk judges": "Three offence kinds: 1 self-trade, 2 frequent cancels, 3 large cancels." The one place
 -- that says how many kinds a rulebook has; 01 "Layouts" puts ladders and cells by it (places specs/Places).
 use Rattle.std.specs.Prelude.{ℕ}
 use Rattle.rules.specs.declared.kinds.Kinds.{Kinds}

@@ -22,9 +22,9 @@ use Rattle.counts.specs.Weigh.{plan_in, reasons_in, record_fault, weigh_fault, w
 use Rattle.counts.proofs.weigh.weigh.Goals as goal
 
 -- the tables are the day's, so that the record decides
-unchanged-fault : (head : Header) (log : List ℕ) (b : Bool) → b ≡ tables_changed head log → b ≡ false
+unchanged_fault : (head : Header) (log : List ℕ) (b : Bool) → b ≡ tables_changed head log → b ≡ false
     → changed_fault head log ≡ 0
-unchanged-fault head log b p q = sym (pick_no _ _ _ _ (told _ _ _ p q) refl)
+unchanged_fault head log b p q = sym (pick_no _ _ _ _ (told _ _ _ p q) refl)
 
 -- its tables are the day's, and good
 still : (head : Header) (log : List ℕ) (b : Bool) → b ≡ tables_changed head log → b ≡ false
@@ -40,7 +40,7 @@ returns-then-tables_changed c =
 pub returns-then-brokers_wrong : goal.returns-then-brokers_wrong
 unfolding weighed_on weigh_fault record_fault
 returns-then-brokers_wrong c =
-    answer_then _ _ _ _ (unchanged-fault _ _ _ c.tables_changed.ensures c.if-tables_changed.false)
+    answer_then _ _ _ _ (unchanged_fault _ _ _ c.tables_changed.ensures c.if-tables_changed.false)
     (answer_refused _ _ _ _ (pick_yes _ _ _ _ (told _ _ _ c.brokers_wrong.ensures c.if-brokers_wrong.true) refl)
     (λ z. absurd (omega arith)))
 
@@ -75,7 +75,7 @@ unfolding weighed_on weigh_fault record_fault weighed
 returns c =
     let a = c.args in
     let counts = Counts (plan_in a.log.now a.row.now) (reasons_in a.log.now a.row.now) in
-    answer_then _ _ _ _ (unchanged-fault _ _ _ c.tables_changed.ensures c.if-tables_changed.false)
+    answer_then _ _ _ _ (unchanged_fault _ _ _ c.tables_changed.ensures c.if-tables_changed.false)
     (rw c.text_of.ensures at c.weigh_in.ensures
     ∙ ap₂ weighed
     (lent_tables a.head a.log.now (still _ _ _ c.tables_changed.ensures c.if-tables_changed.false).0)

@@ -13,15 +13,15 @@ use Rattle.wire.proofs.ChoiceLaws.{chain}
 use Rattle.daylog.proofs.header.entries_fault.Goals as goal
 
 -- what each table's check said of its part of the log
-contracts-told : (h : Header) (log : List ℕ) (t : Text) (r : Bool) → t ≡ text_of h
+contracts_told : (h : Header) (log : List ℕ) (t : Text) (r : Bool) → t ≡ text_of h
     → r ≡ contracts_good t (take (16 + 8 * h.contracts - 16) (drop 16 log))
     → r ≡ contracts_good (text_of h) (contracts_part h log)
-contracts-told h log t r p q = q ∙ ap₂ contracts_good p (part_of log 16 (8 * h.contracts))
+contracts_told h log t r p q = q ∙ ap₂ contracts_good p (part_of log 16 (8 * h.contracts))
 
-accounts-told : (h : Header) (log : List ℕ) (r : Bool)
+accounts_told : (h : Header) (log : List ℕ) (r : Bool)
     → r ≡ accounts_good (take (length log - (16 + 8 * h.contracts)) (drop (16 + 8 * h.contracts) log))
     → r ≡ accounts_good (accounts_part h log)
-accounts-told h log r q = q ∙ ap accounts_good (part_rest log (16 + 8 * h.contracts))
+accounts_told h log r q = q ∙ ap accounts_good (part_rest log (16 + 8 * h.contracts))
 
 pub returns-then-log-middle : goal.returns-then-log-middle
 unfolding entries_fault
@@ -30,22 +30,22 @@ returns-then-log-middle c = search chain depth 12
 pub returns-then-not-contracts_good : goal.returns-then-not-contracts_good
 unfolding entries_fault
 returns-then-not-contracts_good c =
-    let g = contracts-told c.args.h c.args.log.now c.text_of.result c.contracts_good.result c.text_of.ensures
+    let g = contracts_told c.args.h c.args.log.now c.text_of.result c.contracts_good.result c.text_of.ensures
     c.contracts_good.ensures in
     search chain depth 12
 
 pub returns-then-not-accounts_good : goal.returns-then-not-accounts_good
 unfolding entries_fault
 returns-then-not-accounts_good c =
-    let g = contracts-told c.args.h c.args.log.now c.text_of.result c.contracts_good.result c.text_of.ensures
+    let g = contracts_told c.args.h c.args.log.now c.text_of.result c.contracts_good.result c.text_of.ensures
     c.contracts_good.ensures in
-    let h = accounts-told c.args.h c.args.log.now c.accounts_good.result c.accounts_good.ensures in
+    let h = accounts_told c.args.h c.args.log.now c.accounts_good.result c.accounts_good.ensures in
     search chain depth 12
 
 pub returns : goal.returns
 unfolding entries_fault
 returns c =
-    let g = contracts-told c.args.h c.args.log.now c.text_of.result c.contracts_good.result c.text_of.ensures
+    let g = contracts_told c.args.h c.args.log.now c.text_of.result c.contracts_good.result c.text_of.ensures
     c.contracts_good.ensures in
-    let h = accounts-told c.args.h c.args.log.now c.accounts_good.result c.accounts_good.ensures in
+    let h = accounts_told c.args.h c.args.log.now c.accounts_good.result c.accounts_good.ensures in
     search chain depth 12

@@ -15,14 +15,14 @@ use borrow.Author.Rules.{rules}
 use Rattle.desk.proofs.verdicts.settle_day.Goals as goal
 
 -- what the parts that are lent give is what the tables give: over plain values, since `rw` at a call is dear
-on-tables : (h : Header) (log places book out : List ℕ) {a : Settled} {book' out' : List ℕ}
+on_tables : (h : Header) (log places book out : List ℕ) {a : Settled} {book' out' : List ℕ}
     → SettleGives (verdict_in (day_shape h.rulebook) h.rulebook places
     (ids_in (take (16 + 8 * h.contracts - 16) (drop 16 log)))
     (members_in (take (length log - (16 + 8 * h.contracts)) (drop (16 + 8 * h.contracts) log))))
     h.date book out a book' out'
     → SettleGives (verdict_in (day_shape h.rulebook) h.rulebook places (ids_in (contracts_part h log))
     (members_in (accounts_part h log))) h.date book out a book' out'
-on-tables h log places book out e =
+on_tables h log places book out e =
     rw (part_of log 16 (8 * h.contracts), part_rest log (16 + 8 * h.contracts)) at e
 
 pub settle_with-requires : goal.settle_with-requires
@@ -33,4 +33,4 @@ settle_with-requires c =
 pub returns : goal.returns
 returns c =
     let a = c.args in
-    on-tables a.h a.log.now a.places.now a.book.now a.out.now c.settle_with.ensures
+    on_tables a.h a.log.now a.places.now a.book.now a.out.now c.settle_with.ensures

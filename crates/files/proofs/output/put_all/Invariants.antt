@@ -1,9 +1,13 @@
--- What went is within the bytes, and each turn puts more of them.
-use Rattle.std.proofs.Common.{length, ◌-◌, ◌≤◌}
+-- What went is within the bytes, it is what was added so far, and each turn puts more of them.
+use Rattle.std.proofs.Common.{length, take, ◌-◌, ◌≤◌}
+use Rattle.std.specs.Io.KnownBytes.{Appends}
 use Rattle.files.proofs.output.put_all.Given as goal
 
 abbrev pub invariant-loop-done : goal.invariant-loop-done
-invariant-loop-done g l = l.done ≤ length l.bytes
+invariant-loop-done g l = record {
+  within : l.done ≤ length l.bytes;
+  added : Appends (g.W.Write.contents l.initial.to) (g.W.Write.contents l.to) (take l.done l.bytes);
+}
 
 abbrev pub decreases-loop-done : goal.decreases-loop-done
 decreases-loop-done g l = length l.bytes - l.done

@@ -11,14 +11,14 @@ use Rattle.positions.specs.Way.{families_in, sizes_in, places_in}
 use Rattle.positions.proofs.judge.judge_places.Goals as goal
 
 -- what the parts that are lent give is what the tables give: over plain values, since `rw` at a call is dear
-on-tables : (h : Header) (log longs shorts : List ℕ) {text : Text} {sizes places : List ℕ} → text ≡ text_of h →
+on_tables : (h : Header) (log longs shorts : List ℕ) {text : Text} {sizes places : List ℕ} → text ≡ text_of h →
     let middle = 16 + 16 * h.contracts in
     sizes ≡ sizes_in (take (middle + 8 * h.accounts - middle) (drop middle log))
     → places ≡ places_in text (take (middle - 16) (drop 16 log)) (families_in text (take (middle - 16) (drop 16 log)))
     longs shorts sizes
     → places ≡ places_in (text_of h) (limits_part h log) (families_in (text_of h) (limits_part h log)) longs shorts
     (sizes_in (accounts_part h log))
-on-tables h log longs shorts t s e =
+on_tables h log longs shorts t s e =
     e
     ∙ ap₂ (λ x y. places_in x (take (16 + 16 * h.contracts - 16) (drop 16 log))
     (families_in x (take (16 + 16 * h.contracts - 16) (drop 16 log))) longs shorts y) t
@@ -30,7 +30,7 @@ on-tables h log longs shorts t s e =
 pub returns : goal.returns
 returns c =
     let a = c.args in
-    on-tables a.h a.log.now a.longs.now a.shorts.now
+    on_tables a.h a.log.now a.longs.now a.shorts.now
     c.text_of.ensures
     c.add_sizes.ensures
     c.judge_with.ensures

@@ -14,13 +14,13 @@ use Rattle.positions.specs.Way.{ids_in}
 use Rattle.positions.proofs.judge.settle_log.Goals as goal
 
 -- what the part that is lent gives is what the table gives: over plain values, since `rw` at a call is dear
-on-tables : (h : Header) (log book out : List ℕ) {places places' : List ℕ} {a : Settled} {book' out' : List ℕ}
+on_tables : (h : Header) (log book out : List ℕ) {places places' : List ℕ} {a : Settled} {book' out' : List ℕ}
     → places ≡ places'
     → SettleGives (verdict_in position_shape h.rulebook places
     (ids_in (take (16 + 16 * h.contracts - 16) (drop 16 log))) []) h.date book out a book' out'
     → SettleGives (verdict_in position_shape h.rulebook places' (ids_in (limits_part h log)) []) h.date book out a
     book' out'
-on-tables h log book out e g = rw (e, part_of log 16 (16 * h.contracts)) at g
+on_tables h log book out e g = rw (e, part_of log 16 (16 * h.contracts)) at g
 
 pub judge_places-requires : goal.judge_places-requires
 unfolding kinds_in
@@ -30,6 +30,6 @@ judge_places-requires c =
 pub returns : goal.returns
 returns c =
     let a = c.args in
-    on-tables a.h a.log.now a.book.now a.out.now
+    on_tables a.h a.log.now a.book.now a.out.now
     c.judge_places.ensures
     c.settle_with.ensures

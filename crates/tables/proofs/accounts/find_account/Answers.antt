@@ -13,20 +13,20 @@ returns-then-part-lt8 c =
     record { by_halving = q.0; in_order = q.1 }
 
 pub overflow_mul-at : goal.overflow_mul-at
-overflow_mul-at c = omega (arith, halved_fits _ _ _ c.halving-at.ensures c.if-part-lt8.false)
+overflow_mul-at c = omega (arith, halved_fits _ _ _ c.halving-at.ensures (omega arith))
 
 pub word-requires : goal.word-requires
-word-requires c = omega (arith, halved_fits _ _ _ c.halving-at.ensures c.if-part-lt8.false)
+word-requires c = omega (arith, halved_fits _ _ _ c.halving-at.ensures (omega arith))
 
 pub overflow_add-result : goal.overflow_add-result
 overflow_add-result c =
-    omega (arith, halved_fits _ _ _ c.halving-at.ensures c.if-part-lt8.false)
+    omega (arith, halved_fits _ _ _ c.halving-at.ensures (omega arith))
 
 pub returns-then-word-number : goal.returns-then-word-number
 unfolding account_at
 returns-then-word-number c =
     let q = found_both c.args.part.now c.args.number _
-    (found_here _ _ _ c.halving-at.ensures c.if-part-lt8.false (sym c.word.ensures ∙ c.if-word-number.true)) in
+    (found_here _ _ _ c.halving-at.ensures (omega arith) (sym c.word.ensures ∙ c.if-word-number.true)) in
     rw add-sub_cancel_left (record { by_halving = q.0; in_order = q.1 })
 
 pub returns-else-word-number : goal.returns-else-word-number
@@ -38,5 +38,5 @@ returns-else-word-number c =
 
 pub slice_bounds-result-end-then-word-number : goal.slice_bounds-result-end-then-word-number
 slice_bounds-result-end-then-word-number c =
-    let fits = halved_fits _ _ _ c.halving-at.ensures c.if-part-lt8.false in
+    let fits = halved_fits _ _ _ c.halving-at.ensures (omega arith) in
     search rules

@@ -41,12 +41,23 @@ fn letter(x: u8) -> u8 {
     b'a' + (place - 36)
 }
 
-fn make_up(rt: &HostRuntime, letters: &mut [u8]) -> io::Result<()> {
-    rt.fill_bytes(letters)?;
+// A number's digits to the base of 62, the lowest first.
+fn count_in(letters: &mut [u8], number: u32) {
+    let mut left = number;
+    for x in letters.iter_mut() {
+        *x = (left % 62) as u8;
+        left /= 62;
+    }
+}
+
+// Letters by chance; where the system gives none, those that the number of the try makes.
+fn make_up(rt: &HostRuntime, letters: &mut [u8], tried: u32) {
+    if rt.fill_bytes(letters).is_err() {
+        count_in(letters, tried);
+    }
     for x in letters.iter_mut() {
         *x = letter(*x);
     }
-    Ok(())
 }
 
 // Only where no file has the name, and only for its maker to read and write.
@@ -62,8 +73,8 @@ fn create_new(rt: &HostRuntime, name: &mut [u8], at: usize) -> io::Result<File>
     ensures { length name.new ≡ length name.old }
 {
     let mut why = io::Error::from(ErrorKind::AlreadyExists);
-    for _ in 0..NAMES {
-        make_up(rt, &mut name[at..])?;
+    for tried in 0..NAMES {
+        make_up(rt, &mut name[at..], tried);
         match create(rt, name) {
             Ok(file) => return Ok(file),
             Err(e) => {

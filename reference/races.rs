@@ -37,7 +37,7 @@ fn two_days(stage: &Stage) -> [Vec<u8>; 2] {
 }
 
 /// How a clerk said that it went.
-#[derive(PartialEq, Clone, Copy, Debug)]
+#[derive(PartialEq, Debug)]
 enum Told {
     Done,
     /// The book had a later day.
@@ -78,17 +78,17 @@ fn round(stage: &Stage, words: &[String], folder: &Path, days: &[Vec<u8>; 2]) ->
     Ok(Round { outputs, told, book })
 }
 
-/// The texts are the reference's, of the days that were told as done one after the other, and so is the book.
-fn is_in_order(stage: &Stage, round: &Round, told: [Told; 2], days: &[Vec<u8>; 2]) -> Result<(), String> {
+/// The texts are the reference's, of the days that were reported done one after the other, and so is the book.
+fn is_in_order(stage: &Stage, round: &Round, days: &[Vec<u8>; 2]) -> Result<(), String> {
     let mut book = (stage.desk.example_book)();
-    for ((log, output), told) in days.iter().zip(&round.outputs).zip(told) {
-        if told == Told::Done {
+    for ((log, output), told) in days.iter().zip(&round.outputs).zip(&round.told) {
+        if *told == Told::Done {
             let expected = Example::of(stage.desk, &book, log.clone());
             prints(output, &expected.text)?;
             book = expected.after;
         }
     }
-    if told[1] == Told::Late || (told[0] == Told::Late && told[1] != Told::Done) {
+    if round.told[1] == Told::Late || (round.told[0] == Told::Late && round.told[1] != Told::Done) {
         return Err("a day was refused that no later one had come before".to_string());
     }
     if round.book == book {
@@ -119,7 +119,7 @@ fn two_through_run(stage: &Stage) -> Result<Ending, String> {
         round.turned_away().try_for_each(|output| has_status(output, 1))?;
         both += (round.told == [Told::Done, Told::Done]) as usize;
         late += (round.told[0] == Told::Late) as usize;
-        is_in_order(stage, round, round.told, &days)
+        is_in_order(stage, round, &days)
     })?;
     let all = rounds(stage);
     let away = all - both - late;
@@ -145,28 +145,13 @@ fn two_raw(stage: &Stage) -> Result<Ending, String> {
             lost += 1;
             return Ok(());
         }
-        let overtaken = is_in_order(stage, round, with_overtaken(round), &days);
-        is_in_order(stage, round, round.told, &days).or_else(|what| overtaken.map_err(|_| what))
+        is_in_order(stage, round, &days)
     })?;
     Ok(Ending::Passed(format!("in {lost} of {} rounds a day was lost", rounds(stage))))
 }
 
-/// A clerk whose last look follows the other's rename says that the book is not its day's. It cannot tell whether the
-/// other had judged on its day, which then is in the book as one that is done.
-fn with_overtaken(round: &Round) -> [Told; 2] {
-    [0, 1].map(|i| {
-        let is_overtaken = String::from_utf8_lossy(&round.outputs[i].stderr).contains(LOOKED_AGAIN);
-        if is_overtaken {
-            Told::Done
-        } else {
-            round.told[i]
-        }
-    })
-}
-
 /// Said by a clerk that finds another's book, before its rename or after it.
 const NOT_OURS: &str = "is not ";
-const LOOKED_AGAIN: &str = "is not this day's book when looked at again: ";
 const CHANGED: &str = "is not what this day was judged on: ";
 
 fn second_clerk(stage: &Stage) -> Result<(), String> {

@@ -1,6 +1,7 @@
 // A file of one's own beside another.
 ghost use Rattle.std.specs.Prelude.{◌≡◌, ◌≤◌, length};
 
+use crate::EINVAL;
 use crate::known::{known_of, text_of};
 use std::fs::{File, Metadata, OpenOptions, Permissions};
 use std::io;
@@ -13,9 +14,6 @@ const BLANKS: &[u8; 6] = b"XXXXXX";
 
 // How many names are tried while each is taken: as many as the letters of three places make.
 const NAMES: u32 = 238328;
-
-// The number of the error that the system has for a name without blanks.
-const EINVAL: i32 = 22;
 
 fn is_given(file: &File, like: &Metadata) -> bool {
     fchown(file, Some(like.uid()), Some(like.gid())).is_ok()

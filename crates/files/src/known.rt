@@ -1,9 +1,7 @@
 // What the system knows of a file by its name.
+use crate::EINVAL;
 use std::fs::Metadata;
 use std::{fs, io};
-
-// The number of the error that the system has for a name that cannot be one.
-const EINVAL: i32 = 22;
 
 // The name as text, as the system takes it here.
 pub(crate) fn text_of(name: &[u8]) -> io::Result<&str> {

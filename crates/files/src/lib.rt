@@ -12,3 +12,6 @@ pub mod said;
 
 // How often a call that a signal cut off is made again before it counts as failed.
 const TRIES: u32 = 1000;
+
+// The number of the system's error for what it cannot do as it is asked: a name that cannot be one, a folder's flush.
+const EINVAL: i32 = 22;

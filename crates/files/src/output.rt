@@ -3,9 +3,9 @@ ghost use Rattle.std.specs.Prelude.{◌≡◌, ◌≤◌, length, take, IsOk};
 ghost use Rattle.std.specs.Io.KnownBytes.{Appends};
 ghost use Rattle.files.specs.Status.{Status};
 
-use crate::TRIES;
 use crate::input::Got;
 use crate::said::fail;
+use crate::{EINVAL, TRIES};
 use std::fs::File;
 use std::io;
 use std::io::{ErrorKind, Write, writer};
@@ -14,9 +14,6 @@ use std::io::{ErrorKind, Write, writer};
 const DONE: i32 = 0;
 
 const FAILED: i32 = -1;
-
-// The number of the error of a file system that flushes no folders.
-const EINVAL: i32 = 22;
 
 // One write; where a signal cut it off before a byte went, it is made again. No bytes where it failed.
 fn write_some<W: Write>(to: &mut W, part: &[u8]) -> Got

@@ -2,11 +2,11 @@
 use mathlib.Core.Path.{◌≡◌}
 use mathlib.Core.Bool.{not}
 use mathlib.Core.List.{List}
-use Prim.Native.Nat.{ℕ, ◌<◌}
+use Prim.Native.Nat.{ℕ, ◌<◌, ◌≤◌}
 use native.Mathlib.Omega.{arith}
 use borrow.Author.Tests.{leb-false, eqb-true, not-false}
 use lib.Dec.{leb, eqb}
-use Rattle.wire.proofs.ChoiceLaws.{pick_zero}
+use Rattle.wire.proofs.ChoiceLaws.{pick_zero, pick_le}
 use Rattle.book.specs.declared.shape.Shape.{Shape}
 use Rattle.book.specs.Shape.{rulebook_of}
 use Rattle.book.specs.Layout.{last_date}
@@ -30,3 +30,10 @@ fits shape rulebook date book e =
       same = eqb-true (rulebook_of book) rulebook (not-false _ two.0);
       later = leb-false date (last_date book) three.0;
     }
+
+-- every number is a refusal's
+pub fits_most : (shape : Shape) (rulebook date : ℕ) (book : List ℕ) → fits_fault shape rulebook date book ≤ 22
+unfolding fits_fault
+fits_most shape rulebook date book =
+    pick_le _ 17 _ 22 (omega arith)
+    (pick_le _ 18 _ 22 (omega arith) (pick_le _ 9 0 22 (omega arith) (omega arith)))

@@ -1,13 +1,13 @@
 -- 01, "The calls and their refusals": "ask a book for a total and rung (rung 0 for total 0)"; "Ask: 17, 21".
-use Rattle.std.specs.Prelude.{ℕ, ◌+◌, Bool, not, ◌&&◌, List, leb, ltb}
+use Rattle.std.specs.Prelude.{ℕ, ◌+◌, Bool, not, ◌&&◌, List, leb, ltb, Result, Ok, Err}
 use Rattle.wire.specs.Choice.{pick, within}
-use Rattle.wire.specs.Outcomes.{answered}
+use Rattle.wire.specs.Outcomes.{answered, refused}
+use Rattle.wire.specs.declared.refusal.Refusal.{Refusal}
 use Rattle.rules.specs.declared.kinds.Kinds.{Kinds}
 use Rattle.rules.specs.Kinds.{kinds_in, first_kind}
 use Rattle.rules.specs.Ladders.{rung}
 use Rattle.book.specs.declared.shape.Shape.{Shape}
 use Rattle.book.specs.declared.ask.Asked.{Asked}
-use Rattle.book.specs.declared.ask.Asked.TheVariants.{Total, Refused}
 use Rattle.places.specs.Places.{ladder_of}
 use Rattle.book.specs.Layout.{total_at}
 use Rattle.book.specs.Sound.{sound_as}
@@ -27,20 +27,18 @@ ask_fault_as shape b group kind family =
 abbrev pub total_of : Kinds → List ℕ → (group kind family : ℕ) → ℕ
 total_of kinds b group kind family = total_at b (ladder_of kinds group kind family)
 
-unfoldable pub ask_answer_as : Shape → List ℕ → (group kind family : ℕ) → Asked
+-- the total, and its rung
+unfoldable pub ask_answer_as : Shape → List ℕ → (group kind family : ℕ) → Result Asked Refusal
 ask_answer_as shape b group kind family =
-    let total = total_of shape.kinds b group kind family in
-    answered (ask_fault_as shape b group kind family) (Total total (rung total)) Refused
+    let asked = total_of shape.kinds b group kind family in
+    let step = rung asked in
+    answered (ask_fault_as shape b group kind family) (Ok (record { total = asked; rung = step })) refused
 
--- the paper's number of an answer: the refusal's, or 0 for none; and its values, the total and its rung
-abbrev pub ask_number : Asked → ℕ
-ask_number (Total total rung') = 0
-ask_number (Refused number) = number
+-- an answer's values, 0 of a refusal
+abbrev pub asked_total : Result Asked Refusal → ℕ
+asked_total (Ok a) = a.total
+asked_total (Err why) = 0
 
-abbrev pub asked_total : Asked → ℕ
-asked_total (Total total rung') = total
-asked_total (Refused number) = 0
-
-abbrev pub asked_rung : Asked → ℕ
-asked_rung (Total total rung') = rung'
-asked_rung (Refused number) = 0
+abbrev pub asked_rung : Result Asked Refusal → ℕ
+asked_rung (Ok a) = a.rung
+asked_rung (Err why) = 0

@@ -1,18 +1,20 @@
 // Asking a book for a total and its rung.
 ghost use Rattle.std.specs.Prelude.{◌≡◌};
+ghost use Rattle.wire.specs.Outcomes.{checked};
 ghost use Rattle.places.specs.Places.{HasLadder, ladder_of};
 ghost use Rattle.book.specs.Ask.{in_range, ask_fault_as, ask_answer_as};
 
 use crate::shape::Shape;
 use crate::sound::is_sound_as;
 use rules::kinds::{Kinds, first_kind, kinds_in};
-use wire::refusal::{NOT_SOUND, OUT_OF_RANGE};
+use wire::refusal::Refusal;
 
-#[derive(Clone, Copy)]
-pub enum Asked {
-    // The total, and its rung: 0 for total 0.
-    Total(u16, u8),
-    Refused(u32),
+// What a book tells.
+#[derive(Clone, Copy, Debug, PartialEq, Eq)]
+pub struct Asked {
+    pub total: u16,
+    // 0 for total 0.
+    pub rung: u8,
 }
 
 fn in_range(kinds: Kinds, group: u64, kind: u64, family: u64) -> bool
@@ -23,17 +25,16 @@ fn in_range(kinds: Kinds, group: u64, kind: u64, family: u64) -> bool
     ((1 <= group) & (group <= 128)) & ((first <= kind) & (kind < after)) & (family <= 15)
 }
 
-fn ask_fault(shape: Shape, book: &[u8], group: u64, kind: u64, family: u64) -> u32
-    ensures { result ≡ ask_fault_as shape book.now group kind family }
+fn check_asked(shape: Shape, book: &[u8], group: u64, kind: u64, family: u64) -> Result<(), Refusal>
+    ensures { result ≡ checked (ask_fault_as shape book.now group kind family) }
 {
-    let kinds = shape.kinds;
     if !is_sound_as(shape, book) {
-        return NOT_SOUND;
+        return Err(Refusal::NotSound);
     }
-    if !in_range(kinds, group, kind, family) {
-        return OUT_OF_RANGE;
+    if !in_range(shape.kinds, group, kind, family) {
+        return Err(Refusal::OutOfRange);
     }
-    0
+    Ok(())
 }
 
 fn ladder_of(kinds: Kinds, group: u64, kind: u64, family: u64) -> usize
@@ -45,15 +46,20 @@ fn ladder_of(kinds: Kinds, group: u64, kind: u64, family: u64) -> usize
 }
 
 // Asks a book of a shape. Group, kind and family come in 64 bits: 257 is refused and never read as 1.
-pub fn ask_as(shape: Shape, book: &[u8], group: u64, kind: u64, family: u64) -> Asked
+pub fn ask_as(
+    shape: Shape,
+    book: &[u8],
+    group: u64,
+    kind: u64,
+    family: u64,
+) -> Result<Asked, Refusal>
     ensures { result ≡ ask_answer_as shape book.now group kind family }
 {
-    let fault = ask_fault(shape, book, group, kind, family);
-    if fault != 0 {
-        return Asked::Refused(fault);
-    }
-    let kinds = shape.kinds;
-    let ladder = ladder_of(kinds, group, kind, family);
+    check_asked(shape, book, group, kind, family)?;
+    let ladder = ladder_of(shape.kinds, group, kind, family);
     let total = wire::read::get16(book, 16 + 2 * ladder);
-    Asked::Total(total, rules::ladder::rung_of(total as u32))
+    Ok(Asked {
+        total,
+        rung: rules::ladder::rung_of(total as u32),
+    })
 }

@@ -44,11 +44,7 @@ fn most_of(rulebook: u8, day: u32, ladder: usize) -> u32
 fn totals_good(kinds: Kinds, b: &[u8], rulebook: u8, day: u32) -> bool
     ensures { result ≡ totals_good kinds b.now rulebook day }
 {
-    let mut good = true;
-    for l in 0..ladders_in(kinds) {
-        good = good & ((get16(b, 16 + 2 * l) as u32) <= most_of(rulebook, day, l));
-    }
-    good
+    (0..ladders_in(kinds)).all(|l| (get16(b, 16 + 2 * l) as u32) <= most_of(rulebook, day, l))
 }
 
 // Whether it is a sound book of a shape.

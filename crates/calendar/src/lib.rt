@@ -17,6 +17,7 @@ fn is_leap(y: u32) -> bool
     ((y % 4 == 0) & (y % 100 != 0)) | (y % 400 == 0)
 }
 
+#[tactic(auto, using(wire::proofs::ChoiceLaws::chain), unfolding(crate::specs::Dates::month_days))]
 fn month_days(y: u32, m: u32) -> u32
     ensures { result ≡ month_days y m }
 {
@@ -30,6 +31,7 @@ fn month_days(y: u32, m: u32) -> u32
 }
 
 // Whether a number is a real day of the years 2000 to 2099.
+#[tactic(auto, unfolding(crate::specs::Dates::real_day))]
 pub fn is_day(date: u32) -> bool
     ensures { result ≡ real_day date }
 {
@@ -44,6 +46,7 @@ fn days_in(y: u32, m: u32) -> u32
     requires { m ≤ 12 }
     ensures { result ≡ days_in y m }
 {
+    // A chain's sum would owe its bound over the list of mapped months, where the loop keeps it at hand: no plainer.
     let mut n = 0;
     for k in 0..m {
         n += month_days(y, k + 1);
@@ -51,7 +54,8 @@ fn days_in(y: u32, m: u32) -> u32
     n
 }
 
-// The day's number in its year, 1 to 366; 0 where it is no real day.
+// The day's number in its year, 1 to 366; 0 where it is no real day: no Option, so that one comparison says of a sound
+// book that its totals are all zero where it has no date.
 pub fn day_number(date: u32) -> u32
     ensures { result ≡ day_number date }
 {

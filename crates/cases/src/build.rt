@@ -1,19 +1,13 @@
-// The bytes that the cases hand to the calls: logs of one or two contracts, records, books with a past.
+// The bytes that the cases hand to the calls: logs of one or two contracts, and records.
 ghost use Rattle.std.specs.Prelude.{◌≡◌, length};
 
-use wire::write::{put16, put32};
-
-fn put8(s: &mut [u8], at: usize, x: u8) {
-    if at < s.len() {
-        s[at] = x;
-    }
-}
+use wire::write::{put8, put16, put32};
 
 // "AXD", the rulebook, version 1, the date, so many contracts, two accounts.
 fn head(t: &mut [u8], rulebook: u8, date: u32, contracts: u16) {
-    put8(t, 0, 65);
-    put8(t, 1, 88);
-    put8(t, 2, 68);
+    put8(t, 0, b'A');
+    put8(t, 1, b'X');
+    put8(t, 2, b'D');
     put8(t, 3, rulebook);
     put16(t, 4, 1);
     put32(t, 6, date);
@@ -99,11 +93,4 @@ pub(crate) fn end_record(taken: u32) -> [u8; 20]
     put8(&mut row, 0, 3);
     put32(&mut row, 4, taken);
     row
-}
-
-// A book of rulebook 1 with a last date, in which group 3 has a total for kind 1 family 0.
-pub(crate) fn past(book: &mut [u8; 12304], date: u32, total: u16) {
-    desk::books::fresh(book, 1);
-    put32(book, 6, date);
-    put16(book, 16 + 2 * (2 * 3 * 16), total);
 }

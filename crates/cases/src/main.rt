@@ -12,62 +12,58 @@ mod times;
 mod year;
 mod zero;
 
+use day::Lent;
+use exemptions::clause::clause_of;
+use rules::ladder::family_of;
 use rules::text::Text;
 
 fn leaves(rt: &HostRuntime) {
     dates::tested(rt);
-    say::number(
+    say::answer(
         rt,
-        b"rulebook 2, plain limit, ordinary: clause for kind 2",
-        exemptions::clause::clause_of(Text { rulebook: 2 }, 1, 2, 1, 1) as u64,
+        "rulebook 2, plain limit, ordinary: clause for kind 2",
+        clause_of(Text { rulebook: 2 }, 1, 2, 1, 1),
     );
-    say::number(
+    say::answer(
         rt,
-        b"rulebook 2, plain limit, ordinary: clause for kind 3",
-        exemptions::clause::clause_of(Text { rulebook: 2 }, 1, 3, 1, 1) as u64,
+        "rulebook 2, plain limit, ordinary: clause for kind 3",
+        clause_of(Text { rulebook: 2 }, 1, 3, 1, 1),
     );
-    say::number(
+    say::answer(
         rt,
-        b"rulebook 2, stop order, hedge: clause for kind 2",
-        exemptions::clause::clause_of(Text { rulebook: 2 }, 1, 2, 3, 2) as u64,
+        "rulebook 2, stop order, hedge: clause for kind 2",
+        clause_of(Text { rulebook: 2 }, 1, 2, 3, 2),
     );
-    say::number(
+    say::answer(
         rt,
-        b"family of DCE futures",
-        rules::ladder::family_of(Text { rulebook: 1 }, 1, 0) as u64,
+        "family of DCE futures",
+        family_of(Text { rulebook: 1 }, 1, 0),
     );
-    say::number(
+    say::answer(
         rt,
-        b"family of DCE options",
-        rules::ladder::family_of(Text { rulebook: 1 }, 2, 0) as u64,
+        "family of DCE options",
+        family_of(Text { rulebook: 1 }, 2, 0),
     );
 }
 
-fn calls(
-    rt: &HostRuntime,
-    book: &mut [u8; 12304],
-    counts: &mut [u32; 12288],
-    findings: &mut [u8; 49152],
-) {
-    dates::through_open(rt, book, counts);
-    times::enough(rt, book, counts, findings);
-    times::wide_count(rt, book, counts);
-    times::on_two_contracts(rt, book, counts, findings);
-    times::large_bonds(rt, book, counts, findings);
-    times::large(rt, book, counts, findings);
-    times::exempt_for_one(rt, book, counts, findings);
-    times::market_making(rt, book, counts, findings);
-    families::futures_and_options(rt, book, counts, findings);
-    families::one_offence_a_day(rt, book, counts, findings);
-    year::next_year(rt, book, counts, findings);
-    zero::account(rt, book, counts);
-    example::clerk(rt, book, counts, findings);
+fn calls(rt: &HostRuntime, lent: &mut Lent) {
+    dates::through_open(rt, lent);
+    times::enough(rt, lent);
+    times::wide_count(rt, lent);
+    times::on_two_contracts(rt, lent);
+    times::large_bonds(rt, lent);
+    times::large(rt, lent);
+    times::exempt_for_one(rt, lent);
+    times::market_making(rt, lent);
+    families::futures_and_options(rt, lent);
+    families::one_offence_a_day(rt, lent);
+    year::next_year(rt, lent);
+    zero::account(rt, lent);
+    example::clerk(rt, lent);
 }
 
 fn main(rt: HostRuntime) {
-    let mut book = [0u8; 12304];
-    let mut counts = [0u32; 12288];
-    let mut findings = [0u8; 49152];
+    let mut lent = Lent::new();
     leaves(&rt);
-    calls(&rt, &mut book, &mut counts, &mut findings);
+    calls(&rt, &mut lent);
 }

@@ -3,23 +3,17 @@ ghost use Rattle.std.specs.Prelude.{◌≤◌, length};
 
 use daylog::header::header_of;
 use daylog::record::record_length;
-use desk::end::Ended;
-use desk::state::{Answer, State};
-use desk::take::Taken;
+use desk::end::end;
+use desk::open::open;
+use desk::state::State;
+use desk::take::take;
 use files::input::Got;
 use office::input::{END, TURNS};
 use places::MOST_CELLS;
-use wire::refusal::{FULL, LENGTH};
+use wire::refusal::Refusal;
 
 // The bytes read at once: 3,276 whole records of 20 bytes or 2,730 of 24, so that none straddles two pieces.
 const PIECE: usize = 65520;
-
-#[derive(Clone, Copy)]
-pub(crate) enum Outcome {
-    // The number of findings.
-    Ended(usize),
-    Refused(u32),
-}
 
 fn fill_from_input(rt: &HostRuntime, buf: &mut [u8]) -> Got
     ensures { result.count ≤ length buf.new }
@@ -27,45 +21,24 @@ fn fill_from_input(rt: &HostRuntime, buf: &mut [u8]) -> Got
     office::input::fill_from_input(rt, b"clerk", buf)
 }
 
-// Records passed: the state after them, the place of the first that was not taken, and the refusal's number, 0 for
-// none.
-#[derive(Clone, Copy)]
-struct Passed {
-    state: State,
-    at: usize,
-    fault: u32,
-}
-
-// Takes the whole records of a piece, up to an end record.
-fn take_rows(start: State, log: &[u8], rows: &[u8], size: usize, counts: &mut [u32]) -> Passed
+// Takes the whole records of a piece, up to an end record: the state after them, and the bytes from there on.
+fn take_rows<'a>(
+    start: State,
+    log: &[u8],
+    rows: &'a [u8],
+    size: usize,
+    counts: &mut [u32],
+) -> Result<(State, &'a [u8]), Refusal>
     requires { 1 ≤ size }
-    ensures { result.at ≤ length rows.now }
 {
     let mut state = start;
-    let mut at = 0;
-    while size <= rows.len() - at {
-        if rows[at] == END {
-            return Passed {
-                state,
-                at,
-                fault: 0,
-            };
-        }
-        match desk::take::take(state, log, &rows[at..at + size], counts) {
-            Taken::Done(next, _) => {
-                state = next;
-            }
-            Taken::Refused(fault) => {
-                return Passed { state, at, fault };
-            }
-        }
-        at = at + size;
+    let mut rest = rows;
+    while size <= rest.len() && rest[0] != END {
+        let (next, _) = take(state, log, &rest[..size], counts)?;
+        state = next;
+        rest = &rest[size..];
     }
-    Passed {
-        state,
-        at,
-        fault: 0,
-    }
+    Ok((state, rest))
 }
 
 // Whether anything follows an end record of a size, which has `left` bytes from its own first on in its piece. A
@@ -82,37 +55,8 @@ fn is_followed(rt: &HostRuntime, size: usize, left: usize, piece: Got) -> bool {
     (next.count != 0) | next.failed.is_some()
 }
 
-// Bytes after the end record are a refusal only where the end itself is accepted.
-fn unless_followed(
-    rt: &HostRuntime,
-    outcome: Outcome,
-    size: usize,
-    left: usize,
-    piece: Got,
-) -> Outcome {
-    if let Outcome::Ended(_) = outcome {
-        if is_followed(rt, size, left, piece) {
-            return Outcome::Refused(LENGTH);
-        }
-    }
-    outcome
-}
-
-fn end_day(
-    state: State,
-    log: &[u8],
-    row: &[u8],
-    book: &mut [u8],
-    counts: &[u32],
-    findings: &mut [u8],
-) -> Outcome {
-    match desk::end::end(state, log, row, book, counts, findings) {
-        Ended::Done(_, found) => Outcome::Ended(found),
-        Ended::Refused(number) => Outcome::Refused(number),
-    }
-}
-
-// Reads the records piece by piece: the log is never held whole.
+// Reads the records piece by piece, as the log is never held whole, and answers the number of findings. Bytes after
+// the end record are a refusal only where the end itself is accepted.
 fn take_all(
     rt: &HostRuntime,
     start: State,
@@ -121,29 +65,27 @@ fn take_all(
     book: &mut [u8],
     counts: &mut [u32],
     findings: &mut [u8],
-) -> Outcome
+) -> Result<usize, Refusal>
     requires { 1 ≤ size }
 {
     let mut piece = [0u8; PIECE];
     let mut state = start;
     for _ in 0..TURNS {
         let got = fill_from_input(rt, &mut piece);
-        let count = got.count;
-        let passed = take_rows(state, log, &piece[0..count], size, counts);
-        if passed.fault != 0 {
-            return Outcome::Refused(passed.fault);
+        let (next, rest) = take_rows(state, log, &piece[..got.count], size, counts)?;
+        if size <= rest.len() {
+            let (_, found) = end(next, log, &rest[..size], book, counts, findings)?;
+            if is_followed(rt, size, rest.len(), got) {
+                return Err(Refusal::Length);
+            }
+            return Ok(found);
         }
-        state = passed.state;
-        let at = passed.at;
-        if size <= count - at {
-            let outcome = end_day(state, log, &piece[at..at + size], book, counts, findings);
-            return unless_followed(rt, outcome, size, count - at, got);
+        if got.count < PIECE {
+            return Err(Refusal::Length);
         }
-        if count < PIECE {
-            return Outcome::Refused(LENGTH);
-        }
+        state = next;
     }
-    Outcome::Refused(FULL)
+    Err(Refusal::Full)
 }
 
 // Opening comes before the records, so a bad book wins over a log that is cut off further on.
@@ -152,13 +94,9 @@ pub(crate) fn judge_day(
     log: &[u8],
     book: &mut [u8],
     findings: &mut [u8],
-) -> Outcome {
+) -> Result<usize, Refusal> {
     let mut counts = [0u32; MOST_CELLS];
-    match desk::open::open(State::Closed, log, book, &mut counts) {
-        Answer::Done(state) => {
-            let size = record_length(header_of(log).version);
-            take_all(rt, state, log, size, book, &mut counts, findings)
-        }
-        Answer::Refused(number) => Outcome::Refused(number),
-    }
+    let state = open(State::Closed, log, book, &mut counts)?;
+    let size = record_length(header_of(log).version);
+    take_all(rt, state, log, size, book, &mut counts, findings)
 }

@@ -4,39 +4,44 @@
 
 mod day;
 
-use day::Outcome;
-use office::close::{finish, refuse};
+use office::clerk::Clerk;
+use office::close::{Day, finish, refuse};
 use office::input::{TABLES, read_tables};
 use office::keep::{FILE, read_book};
 use places::MOST_FINDINGS;
 
+const CLERK: Clerk = Clerk {
+    who: b"clerk",
+    file: b"book.axb",
+    mark: b"AXD ",
+};
+
 fn run(rt: &HostRuntime, log: &[u8], old: &[u8], book: &mut [u8]) {
     let mut findings = [0u8; MOST_FINDINGS];
     match day::judge_day(rt, log, book, &mut findings) {
-        Outcome::Refused(number) => {
-            refuse(rt, b"clerk", number);
+        Err(refusal) => {
+            refuse(rt, CLERK.who, refusal.number());
         }
-        Outcome::Ended(found) => {
-            finish(
-                rt,
-                b"clerk",
-                b"book.axb",
-                b"AXD ",
+        Ok(found) => {
+            let day = Day {
                 log,
                 old,
-                book,
-                &findings,
+                new: book,
+                findings: &findings,
                 found,
-            );
+            };
+            finish(rt, CLERK, day);
         }
     }
 }
 
 fn main(rt: HostRuntime) {
-    let mut old = [0u8; FILE];
-    let size = read_book(&rt, b"clerk", b"book.axb", &mut old);
-    let mut log = [0u8; TABLES];
-    let end = read_tables(&rt, b"clerk", &mut log);
-    let mut book = old;
-    run(&rt, &log[0..end], &old[0..size], &mut book[0..size]);
+    let mut room = [0u8; FILE];
+    let old = read_book(&rt, CLERK, &mut room);
+    let mut tables = [0u8; TABLES];
+    let log = read_tables(&rt, CLERK.who, &mut tables);
+    let mut copy = [0u8; FILE];
+    let book = &mut copy[..old.len()];
+    book.copy_from_slice(old);
+    run(&rt, log, old, book);
 }

@@ -5,19 +5,21 @@ use mathlib.Core.Bool.{Bool, true, false, not, ◌&&◌, not-not}
 use mathlib.Core.List.{List}
 use Prim.Native.Nat.{ℕ, ◌≤◌, ◌<◌}
 use native.Mathlib.Omega.{arith}
-use borrow.Author.Tests.{eq-eqb, ne_eqb, eqb-true, eqb-false, ltb-true, not-true, not-false}
+use borrow.Author.Tests.{eq-eqb, ne_eqb, ltb-true, not-true, not-false}
 use lib.Dec.{eqb, ltb}
 use lib.ListN.{length, get_or}
+use Rattle.std.specs.Prelude.{Ok, Err, Option, Some, None}
+use Rattle.wire.specs.declared.refusal.Refusal.{Refusal}
+use Rattle.wire.specs.Refusals.{number}
 use Rattle.wire.specs.Choice.{pick}
-use Rattle.wire.specs.Outcomes.{answered}
+use Rattle.wire.specs.Outcomes.{refused}
 use Rattle.wire.proofs.ChoiceLaws.{pick_yes, pick_no, and_yes, and_no, and_no_right, flip_yes, flip_no}
-use Rattle.wire.proofs.AnswerLaws.{answer_refused, answer_done}
+use Rattle.wire.proofs.AnswerLaws.{answer_done}
+use Rattle.wire.proofs.RefusalLaws.{refuse}
 use Rattle.rules.specs.declared.text.Text.{Text}
 use Rattle.exemptions.specs.Exemption.{exempt, clause, clauses}
 use Rattle.exemptions.proofs.ClauseLaws.{exempt_clause}
 use Rattle.tables.specs.declared.contracts.Contract.{Contract}
-use Rattle.tables.specs.declared.contracts.Found.{Found}
-use Rattle.tables.specs.declared.contracts.Found.TheVariants.{At, Nothing}
 use Rattle.daylog.specs.declared.record.Record.{Record}
 use Rattle.tables.specs.Entries.{entries}
 use Rattle.tables.specs.Accounts.{accounts_good, is_in, group_in}
@@ -27,7 +29,6 @@ use Rattle.tables.specs.Tables.{Tables, tables_in, contract_of, has_account, has
 use Rattle.tables.specs.Way.{found_account}
 use Rattle.tables.proofs.Search.{found_length, found_group}
 use Rattle.counts.specs.declared.weigh.Plan.{Plan}
-use Rattle.counts.specs.declared.weigh.Weighed.TheVariants.{Counts, Refused}
 use Rattle.counts.specs.declared.weigh.Reasons.{Reasons}
 use Rattle.counts.specs.Counting.{self_trade, frequent_cancel, large_cancel, plan_for, plan_of, reasons_for, reasons_of}
 use Rattle.counts.specs.Counting.{fields_fault, weighed}
@@ -42,8 +43,8 @@ module _ (text : Text) (contracts accounts : List ℕ) where
   abbrev placed : ℕ → ℕ
   placed id = contract_place (contract_at contracts) (entries contracts) id
 
-  abbrev at : ℕ → Found
-  at id = At (placed id) (contract_at contracts (placed id))
+  abbrev at : ℕ → Option (ℕ × Contract)
+  at id = Some (placed id, contract_at contracts (placed id))
 
   -- what finding a contract's entry says
   pub record Here (id k : ℕ) (e : Contract) : Type 0 where
@@ -52,26 +53,28 @@ module _ (text : Text) (contracts accounts : List ℕ) where
     pub entry : e ≡ t.contract (contract_of t id)
 
   -- the search gives nothing: were the id in the table, it would give its place
-  pub no_contract : (id : ℕ) → Nothing ≡ found_contract contracts id → has_contract t id ≡ false
+  pub no_contract : (id : ℕ) → None ≡ found_contract contracts id → has_contract t id ≡ false
   unfolding found_contract has_contract contract_of tables_in
   no_contract id e = go (ltb (placed id) (entries contracts)) refl
     where
       go : (b : Bool) → ltb (placed id) (entries contracts) ≡ b → b ≡ false
-      go true q = let z : ◌≡◌ {A = ℕ} 0 1 = cc (pick_yes _ _ (at id) Nothing q refl) in absurd (omega arith)
+      go true q = let z : ◌≡◌ {A = ℕ} 0 1 = cc (pick_yes _ _ (at id) None q refl) in absurd (omega arith)
       go false q = refl
 
   -- the search gives a place and an entry: those of the id
-  pub a_contract : (id k : ℕ) (e : Contract) → At k e ≡ found_contract contracts id → Here id k e
+  pub a_contract : (id k : ℕ) (e : Contract) → Some (k, e) ≡ found_contract contracts id → Here id k e
   unfolding found_contract has_contract contract_of tables_in
   a_contract id k e q = go (ltb (placed id) (entries contracts)) refl
     where
       go : (b : Bool) → ltb (placed id) (entries contracts) ≡ b → Here id k e
-      go true l = record {
-        has = l;
-        place = cc (pick_yes _ (at id) (at id) Nothing l refl);
-        entry = cc (pick_yes _ (at id) (at id) Nothing l refl);
-      }
-      go false l = let z : ◌≡◌ {A = ℕ} 0 1 = cc (pick_no _ Nothing (at id) Nothing l refl) in absurd (omega arith)
+      go true l =
+          let same : ◌≡◌ {A = ℕ × Contract} (k, e) (placed id, contract_at contracts (placed id)) =
+          cc (pick_yes _ (at id) (at id) None l refl) in record {
+            has = l;
+            place = ap (λ (p : ℕ × Contract). p.0) same;
+            entry = ap (λ (p : ℕ × Contract). p.1) same;
+          }
+      go false l = let z : ◌≡◌ {A = ℕ} 0 1 = cc (pick_no _ None (at id) None l refl) in absurd (omega arith)
 
   -- a place of 32 contracts at the most is a small number
   pub place_fits : (id k : ℕ) (e : Contract) → Here id k e → length contracts ≤ 256 → k < 65536
@@ -181,35 +184,11 @@ module _ (t : Tables) (r : Record) (e : Contract) (place group : ℕ)
 -- ---- the answer
 module _ (t : Tables) (r : Record) where
   -- a refusal by its number, and a plan where there is none
-  pub refused_by : (n : ℕ) → n ≡ fields_fault t r → (n ≡ 0 → ⊥) → Refused n ≡ weighed t r
+  pub refused_by : (why : Refusal) → number why ≡ fields_fault t r → Err why ≡ weighed t r
   unfolding weighed
-  refused_by n e some = answer_refused _ Refused (fields_fault t r) n e some
+  refused_by why e = refuse why _ e
 
   pub counts_by : (p : Plan) (why : Reasons) → 0 ≡ fields_fault t r → p ≡ plan_of t r → why ≡ reasons_of t r
-      → Counts p why ≡ weighed t r
+      → Ok (p, why) ≡ weighed t r
   unfolding weighed
-  counts_by p w e is clear = answer_done _ Refused (fields_fault t r) (sym e) (ap₂ Counts is clear)
-
--- and read back: an answer that refuses has the refusal's number, and one that counts has the plan and the clauses
-module _ (fault : ℕ) (p : Plan) (why : Reasons) where
-  pub weighed_no : (n : ℕ) → Refused n ≡ answered fault (Counts p why) Refused → (n ≡ fault) × (n ≡ 0 → ⊥)
-  unfolding answered
-  weighed_no n e = go (eqb fault 0) refl
-    where
-      go : (b : Bool) → eqb fault 0 ≡ b → (n ≡ fault) × (n ≡ 0 → ⊥)
-      go true q =
-          let z : ◌≡◌ {A = ℕ} 0 1 = cc (pick_yes _ (Counts p why) _ (Refused fault) q refl) in absurd (omega arith)
-      go false q =
-          let same : n ≡ fault = cc (pick_no _ (Refused fault) (Counts p why) _ q refl) in
-          (same, λ z. eqb-false fault 0 q (sym same ∙ z))
-
-  pub weighed_yes : (q : Plan) (because : Reasons) → Counts q because ≡ answered fault (Counts p why) Refused
-      → (fault ≡ 0) × (q ≡ p) × (because ≡ why)
-  unfolding answered
-  weighed_yes q because e = go (eqb fault 0) refl
-    where
-      go : (b : Bool) → eqb fault 0 ≡ b → (fault ≡ 0) × (q ≡ p) × (because ≡ why)
-      go true h =
-          let same = pick_yes _ (Counts p why) _ (Refused fault) h refl in (eqb-true fault 0 h, cc same, cc same)
-      go false h =
-          let z : ◌≡◌ {A = ℕ} 0 1 = cc (pick_no _ (Refused fault) (Counts p why) _ h refl) in absurd (omega arith)
+  counts_by p w e is clear = answer_done _ refused (fields_fault t r) (sym e) (ap₂ (λ q z. Ok (q, z)) is clear)

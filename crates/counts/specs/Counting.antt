@@ -1,8 +1,9 @@
 -- 01, "What counts": which record counts for which group, kind and contract; and 02, K5: why it was spared. Over tables
 -- and records, with no bytes and no cells.
-use Rattle.std.specs.Prelude.{ℕ, Bool, ◌&&◌, ◌||◌, not, eqb}
+use Rattle.std.specs.Prelude.{ℕ, Bool, ◌&&◌, ◌||◌, not, eqb, Result, Ok}
 use Rattle.wire.specs.Choice.{pick}
-use Rattle.wire.specs.Outcomes.{answered}
+use Rattle.wire.specs.Outcomes.{answered, refused}
+use Rattle.wire.specs.declared.refusal.Refusal.{Refusal}
 use Rattle.rules.specs.declared.text.Text.{Text}
 use Rattle.exemptions.specs.declared.clause.Clauses.{Clauses}
 use Rattle.exemptions.specs.Exemption.{exempt, clauses}
@@ -13,8 +14,6 @@ use Rattle.daylog.specs.Records.{record_good}
 use Rattle.tables.specs.Tables.{Tables, contract_of, has_account, has_contract, group_of}
 use Rattle.counts.specs.declared.weigh.Plan.{Plan}
 use Rattle.counts.specs.declared.weigh.Reasons.{Reasons}
-use Rattle.counts.specs.declared.weigh.Weighed.{Weighed}
-use Rattle.counts.specs.declared.weigh.Weighed.TheVariants.{Counts, Refused}
 
 -- of an order that is not there
 abbrev pub no_clauses : Clauses
@@ -88,5 +87,5 @@ fields_fault t r =
     0)))
 
 -- what the record counts for and why it was spared, or the refusal
-unfoldable pub weighed : Tables → Record → Weighed
-weighed t r = answered (fields_fault t r) (Counts (plan_of t r) (reasons_of t r)) Refused
+unfoldable pub weighed : Tables → Record → Result (Plan × Reasons) Refusal
+weighed t r = answered (fields_fault t r) (Ok (plan_of t r, reasons_of t r)) refused

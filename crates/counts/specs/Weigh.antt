@@ -1,7 +1,8 @@
 -- 01, "The calls and their refusals": a record against the tables that are lent with it. "19 (tables), 11, 12, 13".
-use Rattle.std.specs.Prelude.{ℕ, List}
+use Rattle.std.specs.Prelude.{ℕ, List, Result, Ok}
 use Rattle.wire.specs.Choice.{pick, or_else}
-use Rattle.wire.specs.Outcomes.{answered}
+use Rattle.wire.specs.Outcomes.{answered, refused}
+use Rattle.wire.specs.declared.refusal.Refusal.{Refusal}
 use Rattle.daylog.specs.declared.header.Header.{Header}
 use Rattle.daylog.specs.Header.{tables_of}
 use Rattle.daylog.specs.Brokers.{brokers_wrong}
@@ -10,8 +11,6 @@ use Rattle.daylog.specs.Changed.{changed_fault}
 use Rattle.tables.specs.Tables.{Tables}
 use Rattle.counts.specs.declared.weigh.Plan.{Plan}
 use Rattle.counts.specs.declared.weigh.Reasons.{Reasons}
-use Rattle.counts.specs.declared.weigh.Weighed.{Weighed}
-use Rattle.counts.specs.declared.weigh.Weighed.TheVariants.{Counts, Refused}
 use Rattle.counts.specs.Counting.{plan_of, reasons_of, fields_fault}
 
 -- what the record in a row counts for on the day of a log
@@ -31,5 +30,5 @@ unfoldable pub weigh_fault : Header → (log row : List ℕ) → ℕ
 weigh_fault head log row = or_else (changed_fault head log) (record_fault head.version (tables_of log) row)
 
 -- what `weigh` gives: what the record counts for and why it was spared, or the refusal
-unfoldable pub weighed_on : Header → (log row : List ℕ) → Weighed
-weighed_on head log row = answered (weigh_fault head log row) (Counts (plan_in log row) (reasons_in log row)) Refused
+unfoldable pub weighed_on : Header → (log row : List ℕ) → Result (Plan × Reasons) Refusal
+weighed_on head log row = answered (weigh_fault head log row) (Ok (plan_in log row, reasons_in log row)) refused

@@ -1,5 +1,6 @@
 // The cells that a record raises, and the refusals 14 and 19 before they are raised.
 ghost use Rattle.std.specs.Prelude.{◌≡◌, true, false, ◌<◌, get_or};
+ghost use Rattle.wire.specs.Outcomes.{checked};
 ghost use Rattle.counts.specs.Counting.{counts_as};
 ghost use Rattle.counts.specs.Cells.{cell_for, cell_changed, cells_changed, bumped, raised_for, raised};
 ghost use Rattle.counts.specs.Cells.{plan_fault, counts_after};
@@ -8,7 +9,7 @@ ghost use Rattle.counts.specs.Way.{Small};
 use crate::weigh::Plan;
 use places::cell_of;
 use rules::kinds::Kinds;
-use wire::refusal::{CHANGED, FULL};
+use wire::refusal::Refusal;
 
 fn counts_as(p: Plan, kind: u8) -> bool
     ensures { result ≡ counts_as p kind }
@@ -64,17 +65,17 @@ fn raise_for(kinds: Kinds, p: Plan, kind: u8, c: &mut [u32])
     bump(c, raise, cell);
 }
 
-// The refusal of a record that may be counted, or 0: asked, and nothing written.
-pub fn plan_fault(kinds: Kinds, taken: u32, p: Plan, c: &[u32]) -> u32
-    ensures { result ≡ plan_fault kinds taken p c.now }
+// Whether a record that may be counted is refused: asked, and nothing written.
+pub fn check_plan(kinds: Kinds, taken: u32, p: Plan, c: &[u32]) -> Result<(), Refusal>
+    ensures { result ≡ checked (plan_fault kinds taken p c.now) }
 {
     if 1000000 <= taken {
-        return FULL;
+        return Err(Refusal::Full);
     }
     if cells_changed(kinds, taken, p, c) {
-        return CHANGED;
+        return Err(Refusal::Changed);
     }
-    0
+    Ok(())
 }
 
 fn raise_each(kinds: Kinds, taken: u32, p: Plan, c: &mut [u32])
@@ -87,14 +88,11 @@ fn raise_each(kinds: Kinds, taken: u32, p: Plan, c: &mut [u32])
 }
 
 // Raises the cells of a record. A refusal leaves them.
-pub fn raise(kinds: Kinds, taken: u32, p: Plan, c: &mut [u32]) -> u32
-    ensures { (result ≡ plan_fault kinds taken p c.old) × (c.new ≡ counts_after kinds taken p
-        c.old) }
+pub fn raise(kinds: Kinds, taken: u32, p: Plan, c: &mut [u32]) -> Result<(), Refusal>
+    ensures answer { result ≡ checked (plan_fault kinds taken p c.old) }
+    ensures counts { c.new ≡ counts_after kinds taken p c.old }
 {
-    let fault = plan_fault(kinds, taken, p, c);
-    if fault != 0 {
-        return fault;
-    }
+    check_plan(kinds, taken, p, c)?;
     raise_each(kinds, taken, p, c);
-    0
+    Ok(())
 }

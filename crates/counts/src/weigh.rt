@@ -2,7 +2,6 @@
 ghost use Rattle.std.specs.Prelude.{◌≡◌, true, ◌≤◌, length};
 ghost use Rattle.tables.specs.Accounts.{accounts_good};
 ghost use Rattle.tables.specs.Tables.{tables_in};
-ghost use Rattle.counts.specs.declared.weigh.Weighed.TheVariants.{Counts};
 ghost use Rattle.counts.specs.Counting.{plan_for, reasons_for, weighed};
 ghost use Rattle.counts.specs.Way.{self_trade_by, frequent_by, large_by};
 ghost use Rattle.counts.specs.Weigh.{weighed_on};
@@ -15,9 +14,9 @@ use exemptions::clause::{Clauses, clauses_of};
 use rules::measure::is_large;
 use rules::text::Text;
 use tables::accounts::find_account;
-use tables::contracts::{Contract, Found, find_contract};
+use tables::contracts::{Contract, find_contract};
 use wire::read::get8;
-use wire::refusal::{CHANGED, FIELDS, NO_ACCOUNT, NO_CONTRACT};
+use wire::refusal::Refusal;
 
 // The group and the contract's place for which a record counts, and as which kinds.
 #[derive(Clone, Copy)]
@@ -34,13 +33,6 @@ pub struct Plan {
 pub struct Reasons {
     pub first: Clauses,
     pub second: Clauses,
-}
-
-// What a record counts for and why it was spared, or the refusal.
-#[derive(Clone, Copy)]
-pub enum Weighed {
-    Counts(Plan, Reasons),
-    Refused(u32),
 }
 
 // A record's clauses, on a contract: they are looked up once, and what it counts as goes by them.
@@ -87,8 +79,15 @@ fn is_large_cancel(text: Text, e: Contract, r: Record, order: Clauses) -> bool
     (r.sort == 2) & is_large(text, lots, largest) & (order.over == 0)
 }
 
-fn weigh_for(text: Text, e: Contract, r: Record, place: u16, group: u8, group2: u8) -> Weighed
-    ensures { result ≡ Counts (plan_for text e r place group group2) (reasons_for text e r) }
+fn weigh_for(
+    text: Text,
+    e: Contract,
+    r: Record,
+    place: u16,
+    group: u8,
+    group2: u8,
+) -> (Plan, Reasons)
+    ensures { result ≡ (plan_for text e r place group group2, reasons_for text e r) }
 {
     let why = reasons_for(text, e, r);
     let order = why.first;
@@ -99,45 +98,50 @@ fn weigh_for(text: Text, e: Contract, r: Record, place: u16, group: u8, group2: 
         frequent: is_frequent_cancel(r, order),
         over: is_large_cancel(text, e, r, order),
     };
-    Weighed::Counts(plan, why)
+    (plan, why)
 }
 
 // Each number is searched for once. The tables are sound: 32 contracts at the most, and accounts that rise.
-fn weigh_in(text: Text, contracts: &[u8], accounts: &[u8], r: Record) -> Weighed
+fn weigh_in(
+    text: Text,
+    contracts: &[u8],
+    accounts: &[u8],
+    r: Record,
+) -> Result<(Plan, Reasons), Refusal>
     requires { (length contracts.now ≤ 256) × (accounts_good accounts.now ≡ true) }
     ensures { result ≡ weighed (tables_in text contracts.now accounts.now) r }
 {
     if !record_good(text, r) {
-        return Weighed::Refused(FIELDS);
+        return Err(Refusal::Fields);
     }
-    let found = find_contract(contracts, r.contract);
-    let Found::At(at, e) = found else {
-        return Weighed::Refused(NO_CONTRACT);
+    let Some((at, e)) = find_contract(contracts, r.contract) else {
+        return Err(Refusal::NoContract);
     };
     let place = at as u16;
     let first = find_account(accounts, r.first);
     if first.len() == 0 {
-        return Weighed::Refused(NO_ACCOUNT);
+        return Err(Refusal::NoAccount);
     }
     if r.sort != 1 {
-        return weigh_for(text, e, r, place, get8(first, 4), 0);
+        return Ok(weigh_for(text, e, r, place, get8(first, 4), 0));
     }
     let second = find_account(accounts, r.second);
     if second.len() == 0 {
-        return Weighed::Refused(NO_ACCOUNT);
+        return Err(Refusal::NoAccount);
     }
-    weigh_for(text, e, r, place, get8(first, 4), get8(second, 4))
+    Ok(weigh_for(text, e, r, place, get8(first, 4), get8(second, 4)))
 }
 
-// A record against the tables that are lent with it, which must still be those of the day with this header.
-pub fn weigh(head: Header, log: &[u8], row: &[u8]) -> Weighed
+// What a record counts for and why it was spared, by the tables that are lent with it, which must still be those of
+// the day with this header.
+pub fn weigh(head: Header, log: &[u8], row: &[u8]) -> Result<(Plan, Reasons), Refusal>
     ensures { result ≡ weighed_on head log.now row.now }
 {
     if tables_changed(head, log) {
-        return Weighed::Refused(CHANGED);
+        return Err(Refusal::Changed);
     }
     if brokers_wrong(head.version, row) {
-        return Weighed::Refused(FIELDS);
+        return Err(Refusal::Fields);
     }
     let middle = 16 + 8 * (head.contracts as usize);
     weigh_in(

@@ -1,6 +1,6 @@
 -- Laws of tables that are still those of the open day. Assumes nothing.
-use mathlib.Core.Path.{◌≡◌}
-use mathlib.Core.Bool.{true, false, ◌&&◌, not}
+use mathlib.Core.Path.{◌≡◌, refl, sym, ◌∙◌}
+use mathlib.Core.Bool.{Bool, true, false, ◌&&◌, not}
 use mathlib.Core.List.{List}
 use Prim.Native.Nat.{ℕ}
 use borrow.Author.Tests.{eqb-true, not-false}
@@ -56,6 +56,42 @@ pub changed_by : (head : Header) (log : List ℕ) → same_header head (header_o
     → not (eqb (log_fault log) 0) ≡ tables_changed head log
 unfolding tables_changed
 changed_by head log e = rw e
+
+-- the same, by the comparison that is derived: field by field, the last two first
+abbrev by_fields : Header → Header → Bool
+by_fields a b =
+    eqb a.rulebook b.rulebook && (eqb a.version b.version && (eqb a.date b.date
+    && (eqb a.contracts b.contracts && (eqb a.accounts b.accounts && eqb a.spare b.spare))))
+
+six : (p q r s t u : Bool) → p && (q && (r && (s && (t && u)))) ≡ p && q && r && s && t && u
+six false q r s t u = refl
+six true false r s t u = refl
+six true true false s t u = refl
+six true true true false t u = refl
+six true true true true t u = refl
+
+is_same : (head h : Header) (log : List ℕ) → h ≡ header_of log → by_fields head h ≡ same_header head (header_of log)
+unfolding same_header
+is_same a h log e =
+    let b = header_of log in
+    rw e (six (eqb a.rulebook b.rulebook) (eqb a.version b.version) (eqb a.date b.date)
+    (eqb a.contracts b.contracts) (eqb a.accounts b.accounts) (eqb a.spare b.spare))
+
+flip_true : (b : Bool) → true ≡ not b → b ≡ false
+flip_true true e = e
+flip_true false e = refl
+
+flip_false : (b : Bool) → false ≡ not b → b ≡ true
+flip_false true e = refl
+flip_false false e = e
+
+pub changed_fields : (head h : Header) (log : List ℕ) → h ≡ header_of log → true ≡ not (by_fields head h)
+    → true ≡ tables_changed head log
+changed_fields head h log e n = changed_head head log (sym (is_same head h log e) ∙ flip_true (by_fields head h) n)
+
+pub kept_fields : (head h : Header) (log : List ℕ) → h ≡ header_of log → false ≡ not (by_fields head h)
+    → not (eqb (log_fault log) 0) ≡ tables_changed head log
+kept_fields head h log e n = changed_by head log (sym (is_same head h log e) ∙ flip_false (by_fields head h) n)
 
 pub unchanged : (head : Header) (log : List ℕ) → tables_changed head log ≡ false
     → (head ≡ header_of log) × (log_fault log ≡ 0)

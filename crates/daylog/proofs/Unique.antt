@@ -3,6 +3,8 @@
 use mathlib.Core.Path.{◌≡◌, sym, ◌∙◌}
 use mathlib.Core.Bool.{Bool}
 use Prim.Native.Nat.{ℕ}
+use Rattle.std.specs.Prelude.{Result, ⊤}
+use Rattle.wire.specs.declared.refusal.Refusal.{Refusal}
 use Rattle.rules.specs.declared.text.Text.{Text}
 use Rattle.daylog.specs.declared.broker.Brokers.{Brokers}
 use Rattle.daylog.specs.declared.header.Header.{Header}
@@ -12,7 +14,7 @@ use Rattle.daylog.proofs.broker.brokers_wrong.Reads as brokers_wrong
 use Rattle.daylog.proofs.changed.tables_changed.Reads as tables_changed
 use Rattle.daylog.proofs.header.header_of.Reads as header_of
 use Rattle.daylog.proofs.header.text_of.Reads as text_of
-use Rattle.daylog.proofs.header.log_fault.Reads as log_fault
+use Rattle.daylog.proofs.header.check_log.Reads as check_log
 use Rattle.daylog.proofs.record.record_length.Reads as record_length
 use Rattle.daylog.proofs.record.record_of.Reads as record_of
 use Rattle.daylog.proofs.record.record_good.Reads as record_good
@@ -38,9 +40,9 @@ pub text_of_unique : (κs : _) (a : _) (r₁ r₂ : Text) (s₁ s₂ : _)
     → text_of.Post κs a r₁ s₁ → text_of.Post κs a r₂ s₂ → r₁ ≡ r₂
 text_of_unique κs a r₁ r₂ s₁ s₂ p q = p ∙ sym q
 
-pub log_fault_unique : (κs : _) (a : _) (r₁ r₂ : ℕ) (s₁ s₂ : _)
-    → log_fault.Post κs a r₁ s₁ → log_fault.Post κs a r₂ s₂ → r₁ ≡ r₂
-log_fault_unique κs a r₁ r₂ s₁ s₂ p q = p ∙ sym q
+pub check_log_unique : (κs : _) (a : _) (r₁ r₂ : Result ⊤ Refusal) (s₁ s₂ : _)
+    → check_log.Post κs a r₁ s₁ → check_log.Post κs a r₂ s₂ → r₁ ≡ r₂
+check_log_unique κs a r₁ r₂ s₁ s₂ p q = p ∙ sym q
 
 pub record_length_unique : (κs : _) (a : _) (r₁ r₂ : ℕ) (s₁ s₂ : _)
     → record_length.Post κs a r₁ s₁ → record_length.Post κs a r₂ s₂ → r₁ ≡ r₂

@@ -1,5 +1,6 @@
 // The header, and opening's checks 1 to 8 in their order.
 ghost use Rattle.std.specs.Prelude.{◌≡◌, ◌+◌, ◌*◌, ◌≤◌, length};
+ghost use Rattle.wire.specs.Outcomes.{checked};
 ghost use Rattle.daylog.specs.Header.{header_of, is_version, text_of, log_marked, sizes_good};
 ghost use Rattle.daylog.specs.Header.{entries_fault, head_fault, log_fault};
 
@@ -8,10 +9,10 @@ use rules::text::{Text, is_rulebook};
 use tables::accounts::accounts_good;
 use tables::contracts::contracts_good;
 use wire::read::{get8, get16, get32};
-use wire::refusal::{ACCOUNT_ENTRY, CONTRACT_ENTRY, DATE, LENGTH, MARK, RULEBOOK, SIZES, VERSION};
+use wire::refusal::Refusal;
 
 // The header's fields after the mark.
-#[derive(Clone, Copy)]
+#[derive(Debug, Clone, Copy, PartialEq, Eq, Hash)]
 pub struct Header {
     pub rulebook: u8,
     pub version: u16,
@@ -65,52 +66,52 @@ fn sizes_good(h: Header) -> bool
 }
 
 // Checks 1 (whole length), 7 and 8: each table's part of the slice is handed to its own check.
-fn entries_fault(h: Header, log: &[u8]) -> u32
+fn check_entries(h: Header, log: &[u8]) -> Result<(), Refusal>
     requires { 16 ≤ length log.now }
-    ensures { result ≡ entries_fault h log.now }
+    ensures { result ≡ checked (entries_fault h log.now) }
 {
     let middle = 16 + 8 * (h.contracts as usize);
     if log.len() != middle + 8 * (h.accounts as usize) {
-        return LENGTH;
+        return Err(Refusal::Length);
     }
     if !contracts_good(text_of(h), &log[16..middle]) {
-        return CONTRACT_ENTRY;
+        return Err(Refusal::ContractEntry);
     }
     if !accounts_good(&log[middle..]) {
-        return ACCOUNT_ENTRY;
+        return Err(Refusal::AccountEntry);
     }
-    0
+    Ok(())
 }
 
 // Checks 3 to 6, then those of the tables.
-fn head_fault(h: Header, log: &[u8]) -> u32
+fn check_head(h: Header, log: &[u8]) -> Result<(), Refusal>
     requires { 16 ≤ length log.now }
-    ensures { result ≡ head_fault h log.now }
+    ensures { result ≡ checked (head_fault h log.now) }
 {
     if !is_version(h.version) {
-        return VERSION;
+        return Err(Refusal::Version);
     }
     if !is_rulebook(h.rulebook as u64) {
-        return RULEBOOK;
+        return Err(Refusal::Rulebook);
     }
     if !calendar::is_day(h.date) {
-        return DATE;
+        return Err(Refusal::Date);
     }
     if !sizes_good(h) {
-        return SIZES;
+        return Err(Refusal::Sizes);
     }
-    entries_fault(h, log)
+    check_entries(h, log)
 }
 
-// The number of the first of opening's checks 1 to 8 that a header with its tables fails, or 0.
-pub fn log_fault(log: &[u8]) -> u32
-    ensures { result ≡ log_fault log.now }
+// The first of opening's checks 1 to 8 that a header with its tables fails, if any.
+pub fn check_log(log: &[u8]) -> Result<(), Refusal>
+    ensures { result ≡ checked (log_fault log.now) }
 {
     if log.len() < 16 {
-        return LENGTH;
+        return Err(Refusal::Length);
     }
     if !mark_good(log) {
-        return MARK;
+        return Err(Refusal::Mark);
     }
-    head_fault(header_of(log), log)
+    check_head(header_of(log), log)
 }

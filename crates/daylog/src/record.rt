@@ -7,6 +7,7 @@ use rules::measure::Lots;
 use rules::text::Text;
 use wire::read::{get8, get16, get32};
 
+// The codes are bytes as they came: which of them there are is for `record_good` to say, for every record.
 #[derive(Clone, Copy)]
 pub struct Record {
     pub sort: u8,

@@ -8,8 +8,9 @@ use native.Mathlib.Numerals.{add-one}
 use borrow.Author.Tests.{eqb-true}
 use lib.Dec.{eqb, lit<}
 use lib.ListN.{length}
+use Rattle.std.specs.Prelude.{Ok}
 use Rattle.wire.specs.Choice.{pick}
-use Rattle.wire.specs.Outcomes.{answered}
+use Rattle.wire.specs.Outcomes.{answered, refused}
 use Rattle.wire.proofs.ChoiceLaws.{pick_zero, or_none}
 use Rattle.daylog.specs.declared.record.Record.{Record}
 use Rattle.daylog.specs.Header.{header_of, log_fault, tables_of}
@@ -20,9 +21,6 @@ use Rattle.verdict.specs.Settle.{written}
 use Rattle.years.specs.Days.{blank_as}
 use Rattle.desk.specs.declared.state.State.{State}
 use Rattle.desk.specs.declared.state.State.TheVariants.{Closed, Open}
-use Rattle.desk.specs.declared.state.Answer.TheVariants.{Done, Refused}
-use Rattle.desk.specs.declared.take.Taken.TheVariants.{Done as TakeDone, Refused as TakeRefused}
-use Rattle.desk.specs.declared.end.Ended.TheVariants.{Done as EndDone, Refused as EndRefused}
 use Rattle.counts.specs.Cells.{raised}
 use Rattle.counts.specs.Counting.{fields_fault}
 use Rattle.counts.specs.Weigh.{plan_in, reasons_in, record_fault}
@@ -86,7 +84,7 @@ module _ (held log c book out : List ℕ) where
   abbrev opening : Bool → Given
   opening t =
       let counts = zeroed (kinds_for (header_of log)) c in
-      let a = pick t (Done (Open (day_of log))) (Refused handed_is) in
+      let a = pick t (Ok (Open (day_of log))) (refused handed_is) in
       record {
         reply = moved a;
         after = desk_of (state_after Closed a) (log_after held log a) (pick t counts c) book
@@ -99,7 +97,7 @@ module _ (held log c book out : List ℕ) where
     where
       go : (t : Bool) → eqb handed_is 0 ≡ t → Same (opening t)
           (record {
-            reply = moved (pick t (Done (Open (day_in log []))) (Refused handed_is));
+            reply = moved (pick t (Ok (Open (day_in log []))) (refused handed_is));
             after = pick t (paper (during log []) book out (length c)) (paper idle book out (length c));
           })
       go true e =
@@ -125,7 +123,7 @@ module _ (log c book out : List ℕ) (rs : List Record) (row : List ℕ) (a : Ag
   abbrev taking : Bool → Given
   taking t =
       let counts = raised (kinds_for (header_of log)) (plan_in log row) c in
-      let a = pick t (TakeDone (Open (one_more (day_in log rs))) (reasons_in log row)) (TakeRefused taking_number) in
+      let a = pick t (Ok (Open (one_more (day_in log rs)), reasons_in log row)) (refused taking_number) in
       record { reply = took a; after = desk_of (take_state (Open (day_in log rs)) a) log (pick t counts c) book out }
 
   -- and what the paper says
@@ -135,7 +133,7 @@ module _ (log c book out : List ℕ) (rs : List Record) (row : List ℕ) (a : Ag
       let old = paper (during log rs) book out (length c) in
       let new = paper (during log (record_of row ∷ rs)) book out (length c) in
       record {
-        reply = took (pick t (TakeDone after (reasons_in log row)) (TakeRefused taking_number));
+        reply = took (pick t (Ok (after, reasons_in log row)) (refused taking_number));
         after = pick
             t new old;
       }
@@ -160,7 +158,7 @@ module _ (log c book out : List ℕ) (rs : List Record) (row : List ℕ) (a : Ag
   -- what ending gives by a verdict, by whether the fault is 0
   abbrev ending : Verdict → Bool → Given
   ending v t =
-      let e = pick t (EndDone Closed (found_count v)) (EndRefused ending_number) in
+      let e = pick t (Ok (Closed, found_count v)) (refused ending_number) in
       let buffers = pick t (written v (header_of log).date book out) (book, out) in
       record { reply = ended e; after = desk_of (end_state (Open (day_in log rs)) e) log c buffers.0 buffers.1 }
 
@@ -171,8 +169,8 @@ module _ (log c book out : List ℕ) (rs : List Record) (row : List ℕ) (a : Ag
     where
       go : (t : Bool) → Same (ending (day_verdict (tables_of log) rs) t)
           (record {
-            reply = ended (pick t (EndDone Closed (found_count (day_verdict (tables_of log) rs)))
-                (EndRefused ending_number));
+            reply = ended (pick t (Ok (Closed, found_count (day_verdict (tables_of log) rs)))
+                (refused ending_number));
             after =
                 let buffers = written (day_verdict (tables_of log) rs) (header_of log).date book out in
                 pick t (paper idle buffers.0 buffers.1 (length c)) (paper (during log rs) book out (length c));

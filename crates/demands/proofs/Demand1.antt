@@ -3,23 +3,23 @@ use mathlib.Core.Path.{◌≡◌, refl, sym, ap, ap₂, ◌∙◌, subst}
 use mathlib.Core.Bool.{Bool, true, false}
 use mathlib.Core.List.{List, [], ◌∷◌}
 use borrow.Author.Tests.{ne_eqb}
+use lib.ListN.{length}
 use lib.Dec.{eqb}
+use Rattle.posting.proofs.FreshLaws.{fresh_most}
 use Rattle.wire.specs.Choice.{pick}
-use Rattle.wire.specs.Outcomes.{answered}
+use Rattle.wire.specs.Outcomes.{answered, number_in as number_of}
 use Rattle.wire.proofs.ChoiceLaws.{pick_no}
-use Rattle.wire.proofs.AnswerLaws.{answer_done, answer_number, one_outcome}
-use Rattle.posting.specs.Fresh.{fresh_number}
-use Rattle.book.specs.Ask.{ask_number, ask_answer_as, asked_total, asked_rung}
-use Rattle.desk.specs.Answers.{number_of}
+use Rattle.wire.proofs.AnswerLaws.{answer_done, one_outcome}
+use Rattle.wire.proofs.RefusalLaws.{number_answered}
+use Rattle.book.specs.Ask.{ask_answer_as, asked_total, asked_rung}
 use Rattle.desk.specs.Abandon.{abandon_answer}
-use Rattle.desk.specs.Take.{taken_number}
-use Rattle.desk.specs.End.{end_number, end_found}
+use Rattle.desk.specs.End.{end_found}
 use Rattle.demands.specs.Calls.{Step, Desk, Given, Gives, fresh_gives, open_gives, take_gives, end_gives}
 use Rattle.demands.specs.Calls.{abandon_gives, ask_gives, lend_gives, Ran, none, next}
 use Rattle.demands.specs.Demand1.{AlwaysAnswered, OneAnswer, named_number, NumberNamed, clauses_in}
 use Rattle.demands.specs.Demand1.{values_in, named_values}
 use Rattle.demands.specs.Demand1.{ValuesNamed, RefusalKeeps}
-use Rattle.demands.proofs.NumberLaws.{answered_number, fresh_number_lem, ask_number_lem}
+use Rattle.demands.proofs.NumberLaws.{open_most, take_most, end_most, abandon_most, ask_number_lem}
 use Rattle.demands.proofs.Answers.{answers}
 
 -- ---- there is an answer, and no second one
@@ -50,12 +50,15 @@ one_answer w (c ∷ cs) (g ∷ gs) (h ∷ hs) (next m r) (next n s) =
 -- ---- its number is the one that is named
 pub number_named : NumberNamed
 unfolding named_number abandon_answer
-number_named w c g (fresh_gives m) = ap fresh_number m.answer ∙ fresh_number_lem _
-number_named w c g (open_gives m) = ap number_of m.answer ∙ answered_number _ _
-number_named w c g (take_gives m) = ap taken_number m.answer ∙ answer_number _ _ taken_number _ refl refl
-number_named w c g (end_gives m) = ap end_number m.answer ∙ answer_number _ _ end_number _ refl refl
-number_named w c g (abandon_gives e) = ap number_of e ∙ answered_number _ _
-number_named w c g (ask_gives {group} {kind} {family} e) = ap ask_number e ∙ ask_number_lem w.book group kind family
+number_named w c g (fresh_gives m) = ap number_of m.answer ∙ number_answered _ _ (fresh_most _ _ _)
+number_named w c g (open_gives {log} m) =
+    ap number_of m.answer ∙ number_answered _ _ (open_most w.state log w.book (length w.counts))
+number_named w c g (take_gives {row} m) =
+    ap number_of m.answer ∙ number_answered _ _ (take_most w.state w.log row w.counts)
+number_named w c g (end_gives {row} m) =
+    ap number_of m.answer ∙ number_answered _ _ (end_most w.state w.log row w.book w.counts (length w.out))
+number_named w c g (abandon_gives e) = ap number_of e ∙ number_answered _ _ (abandon_most w.state)
+number_named w c g (ask_gives {group} {kind} {family} e) = ap number_of e ∙ ask_number_lem w.book group kind family
 number_named w c g lend_gives = refl
 
 -- ---- and its values are those that are named

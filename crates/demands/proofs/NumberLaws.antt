@@ -6,16 +6,15 @@ use Prim.Native.Nat.{ℕ, ◌≤◌, ◌<◌}
 use native.Mathlib.Omega.{arith}
 use borrow.Author.Tests.{eq-eqb}
 use lib.ListN.{length}
-use Rattle.wire.specs.Outcomes.{answered}
-use Rattle.wire.proofs.ChoiceLaws.{pick_not, or_not, pick_le, pick_no, flip_no}
-use Rattle.wire.proofs.AnswerLaws.{answer_number}
+use Rattle.wire.specs.Outcomes.{number_in as number_of}
+use Rattle.wire.proofs.ChoiceLaws.{pick_not, or_not, pick_le, or_most, pick_no, flip_no}
+use Rattle.wire.proofs.RefusalLaws.{number_answered}
 use Rattle.rules.specs.declared.kinds.Kinds.{Kinds}
 use Rattle.rules.specs.Kinds.{kinds_of}
-use Rattle.posting.specs.declared.fresh.NewBook.TheVariants.{Made, Refused as NotMade}
 use Rattle.places.specs.Places.{book_size}
 use Rattle.book.specs.Shape.{day_shape, rulebook_of, shape_of}
-use Rattle.posting.specs.Fresh.{fresh_number, fresh_fault_as}
-use Rattle.book.specs.Ask.{ask_number, ask_fault_as, ask_answer_as}
+use Rattle.posting.specs.Fresh.{fresh_fault_as}
+use Rattle.book.specs.Ask.{ask_fault_as, ask_answer_as}
 use Rattle.book.specs.Fits.{fits_fault, book_fault}
 use Rattle.book.specs.Sound.{sound}
 use Rattle.book.proofs.BookLaws.{sound_facts, day_kinds}
@@ -27,62 +26,26 @@ use Rattle.verdict.specs.Verdict.{Verdict}
 use Rattle.verdict.specs.Settle.{short_fault}
 use Rattle.desk.specs.declared.state.Day.{Day}
 use Rattle.desk.specs.declared.state.State.{State}
-use Rattle.desk.specs.declared.state.State.TheVariants.{Closed}
-use Rattle.desk.specs.declared.end.Ended.TheVariants.{Done, Refused}
-use Rattle.desk.specs.Answers.{number_of}
+use Rattle.desk.specs.declared.state.State.TheVariants.{Closed, Open}
+use Rattle.desk.specs.Abandon.{abandon_fault}
+use Rattle.daylog.specs.declared.header.Header.{Header}
+use Rattle.daylog.specs.Changed.{changed_fault}
+use Rattle.posting.proofs.FreshLaws.{fresh_most}
+use Rattle.book.proofs.AskLaws.{ask_most}
+use Rattle.book.proofs.FitsLaws.{fits_most}
+use Rattle.verdict.proofs.SettleLaws.{short_most}
 use Rattle.desk.specs.Books.{fresh_fault, ask_fault, ask_answer}
 use Rattle.counts.specs.Counting.{fields_fault}
-use Rattle.counts.specs.Weigh.{record_fault}
-use Rattle.desk.specs.Open.{few_fault, handed_fault}
-use Rattle.desk.specs.Take.{taken_number}
-use Rattle.desk.specs.End.{end_number, row_fault}
+use Rattle.counts.specs.Weigh.{record_fault, weigh_fault}
+use Rattle.counts.specs.Cells.{plan_fault}
+use Rattle.counts.specs.declared.weigh.Plan.{Plan}
+use Rattle.desk.specs.Open.{few_fault, handed_fault, open_fault}
+use Rattle.desk.specs.Take.{sizes_fault, held_fault, day_fault, take_fault}
+use Rattle.desk.specs.End.{row_fault, call_fault, lent_fault, cells_fault, counts_fault, end_fault}
 use Rattle.demands.specs.Calls.{Step, make_book, open_day, take_record, end_day, abandon_day, ask_book, lend_findings}
 use Rattle.demands.specs.Calls.{number_in}
-use Rattle.demands.specs.Paper.{Course, idle, during, Paper, day_in, take_number, end_refusal, moved_by, open_ruled}
+use Rattle.demands.specs.Paper.{Course, idle, during, Paper, day_in, take_number, end_refusal, open_ruled}
 use Rattle.demands.specs.Paper.{take_ruled, end_ruled, rule}
-
--- ---- the number that an answer has
-pub answered_number : (fault : ℕ) (next : State) → number_of (moved_by fault next) ≡ fault
-answered_number fault next = answer_number _ _ number_of fault refl refl
-
-pub fresh_number_lem : (fault : ℕ) → fresh_number (answered fault Made NotMade) ≡ fault
-fresh_number_lem fault = answer_number _ _ fresh_number fault refl refl
-
-pub ask_number_lem : (b : List ℕ) (group kind family : ℕ)
-    → ask_number (ask_answer b group kind family) ≡ ask_fault b group kind family
-unfolding ask_answer_as
-ask_number_lem b group kind family = answer_number _ _ ask_number (ask_fault b group kind family) refl refl
-
-end_number_lem : (fault found : ℕ) → end_number (answered fault (Done Closed found) Refused) ≡ fault
-end_number_lem fault found = answer_number _ _ end_number fault refl refl
-
--- the refusal that the rules give to a step
-unfoldable pub refusal : Paper → Course → Step → ℕ
-refusal p course (make_book rulebook) = fresh_fault (length p.book) rulebook
-refusal p course (ask_book group kind family) = ask_fault p.book group kind family
-refusal p course (lend_findings out) = 0
-refusal p idle (open_day log) = handed_fault log p.book p.len
-refusal p idle (take_record row) = 10
-refusal p idle (end_day row) = 10
-refusal p idle abandon_day = 10
-refusal p (during log rs) (open_day other) = 10
-refusal p (during log rs) (take_record row) = take_number log rs row
-refusal p (during log rs) (end_day row) = end_refusal log rs row p.book (length p.out)
-refusal p (during log rs) abandon_day = 0
-
-pub number_is : (p : Paper) (course : Course) (c : Step) → number_in (rule p course c).reply ≡ refusal p course c
-unfolding rule open_ruled take_ruled end_ruled refusal
-number_is p course (make_book rulebook) = fresh_number_lem (fresh_fault (length p.book) rulebook)
-number_is p course (ask_book group kind family) = ask_number_lem p.book group kind family
-number_is p course (lend_findings out) = refl
-number_is p idle (open_day log) = answered_number _ _
-number_is p idle (take_record row) = refl
-number_is p idle (end_day row) = refl
-number_is p idle abandon_day = answered_number 10 _
-number_is p (during log rs) (open_day other) = answered_number 10 _
-number_is p (during log rs) (take_record row) = answer_number _ _ taken_number (take_number log rs row) refl refl
-number_is p (during log rs) (end_day row) = end_number_lem (end_refusal log rs row p.book (length p.out)) _
-number_is p (during log rs) abandon_day = answered_number 0 _
 
 -- ---- how high the numbers go
 pub log_most : (log : List ℕ) → log_fault log ≤ 8
@@ -105,6 +68,107 @@ record_most version t row = pick_le _ 11 _ 13 (omega arith) (fields_most t (reco
 row_most : (day : Day) (row : List ℕ) → row_fault day row ≤ 15
 unfolding row_fault
 row_most day row = pick_le _ 11 _ 15 (omega arith) (pick_le _ 15 _ 15 (omega arith) (omega arith))
+
+few_most : (kinds : Kinds) (len : ℕ) → few_fault kinds len ≤ 22
+unfolding few_fault
+few_most kinds len = pick_le _ 16 0 22 (omega arith) (omega arith)
+
+sizes_most : (day : Day) (row : List ℕ) (len : ℕ) → sizes_fault day row len ≤ 22
+unfolding sizes_fault
+sizes_most day row len = pick_le _ 1 _ 22 (omega arith) (pick_le _ 16 0 22 (omega arith) (omega arith))
+
+changed_most : (head : Header) (log : List ℕ) → changed_fault head log ≤ 22
+changed_most head log = pick_le _ 19 0 22 (omega arith) (omega arith)
+
+plan_most : (kinds : Kinds) (taken : ℕ) (p : Plan) (c : List ℕ) → plan_fault kinds taken p c ≤ 22
+unfolding plan_fault
+plan_most kinds taken p c = pick_le _ 14 _ 22 (omega arith) (pick_le _ 19 0 22 (omega arith) (omega arith))
+
+cells_most : (kinds : Kinds) (taken : ℕ) (c : List ℕ) → cells_fault kinds taken c ≤ 22
+unfolding cells_fault
+cells_most kinds taken c = pick_le _ 19 0 22 (omega arith) (omega arith)
+
+-- every number that a call names is a refusal's
+handed_most : (log book : List ℕ) (len : ℕ) → handed_fault log book len ≤ 22
+unfolding handed_fault
+handed_most log book len =
+    or_most _ _ 22 (omega (arith, log_most log)) (or_most _ _ 22 (fits_most _ _ _ _) (few_most _ _))
+
+pub open_most : (state : State) (log book : List ℕ) (len : ℕ) → open_fault state log book len ≤ 22
+unfolding open_fault
+open_most Closed log book len = handed_most log book len
+open_most (Open day) log book len = omega arith
+
+pub take_most : (state : State) (log row c : List ℕ) → take_fault state log row c ≤ 22
+unfolding take_fault day_fault held_fault weigh_fault
+take_most Closed log row c = omega arith
+take_most (Open day) log row c =
+    or_most _ _ 22
+    (or_most _ _ 22 (sizes_most day row (length c))
+    (or_most _ _ 22 (changed_most day.head log)
+    (omega (arith, record_most day.head.version (tables_of log) row))))
+    (plan_most _ _ _ _)
+
+pub end_most : (state : State) (log row book c : List ℕ) (room : ℕ) → end_fault state log row book c room ≤ 22
+unfolding end_fault lent_fault call_fault counts_fault
+end_most Closed log row book c room = omega arith
+end_most (Open day) log row book c room =
+    or_most _ _ 22
+    (or_most _ _ 22 (or_most _ _ 22 (sizes_most day row (length c)) (changed_most day.head log))
+    (or_most _ _ 22 (omega (arith, row_most day row)) (fits_most _ _ _ _)))
+    (or_most _ _ 22 (cells_most _ _ _) (short_most _ _))
+
+pub abandon_most : (state : State) → abandon_fault state ≤ 22
+abandon_most Closed = omega arith
+abandon_most (Open day) = omega arith
+
+taking_most : (log : List ℕ) (rs : List Record) (row : List ℕ) → take_number log rs row ≤ 22
+unfolding take_number
+taking_most log rs row =
+    pick_le _ 1 _ 22 (omega arith)
+    (or_most _ _ 22 (omega (arith, record_most (header_of log).version (tables_of log) row))
+    (pick_le _ 14 0 22 (omega arith) (omega arith)))
+
+ending_most : (log : List ℕ) (rs : List Record) (row book : List ℕ) (room : ℕ) → end_refusal log rs row book room ≤ 22
+unfolding end_refusal
+ending_most log rs row book room =
+    pick_le _ 1 _ 22 (omega arith)
+    (or_most _ _ 22 (omega (arith, row_most (day_in log rs) row))
+    (or_most _ _ 22 (fits_most _ _ _ _) (short_most _ _)))
+
+-- ---- the number that an answer has
+pub ask_number_lem : (b : List ℕ) (group kind family : ℕ)
+    → number_of (ask_answer b group kind family) ≡ ask_fault b group kind family
+unfolding ask_answer_as
+ask_number_lem b group kind family = number_answered _ _ (ask_most _ b group kind family)
+
+-- the refusal that the rules give to a step
+unfoldable pub refusal : Paper → Course → Step → ℕ
+refusal p course (make_book rulebook) = fresh_fault (length p.book) rulebook
+refusal p course (ask_book group kind family) = ask_fault p.book group kind family
+refusal p course (lend_findings out) = 0
+refusal p idle (open_day log) = handed_fault log p.book p.len
+refusal p idle (take_record row) = 10
+refusal p idle (end_day row) = 10
+refusal p idle abandon_day = 10
+refusal p (during log rs) (open_day other) = 10
+refusal p (during log rs) (take_record row) = take_number log rs row
+refusal p (during log rs) (end_day row) = end_refusal log rs row p.book (length p.out)
+refusal p (during log rs) abandon_day = 0
+
+pub number_is : (p : Paper) (course : Course) (c : Step) → number_in (rule p course c).reply ≡ refusal p course c
+unfolding rule open_ruled take_ruled end_ruled refusal
+number_is p course (make_book rulebook) = number_answered _ _ (fresh_most _ (length p.book) rulebook)
+number_is p course (ask_book group kind family) = ask_number_lem p.book group kind family
+number_is p course (lend_findings out) = refl
+number_is p idle (open_day log) = number_answered _ _ (handed_most log p.book p.len)
+number_is p idle (take_record row) = refl
+number_is p idle (end_day row) = refl
+number_is p idle abandon_day = number_answered 10 _ (omega arith)
+number_is p (during log rs) (open_day other) = number_answered 10 _ (omega arith)
+number_is p (during log rs) (take_record row) = number_answered _ _ (taking_most log rs row)
+number_is p (during log rs) (end_day row) = number_answered _ _ (ending_most log rs row p.book (length p.out))
+number_is p (during log rs) abandon_day = number_answered 0 _ (omega arith)
 
 -- ---- never 19
 book_not : (rulebook date : ℕ) (book : List ℕ) → book_fault rulebook date book ≡ 19 → ⊥

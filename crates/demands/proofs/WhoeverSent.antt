@@ -6,8 +6,9 @@ use Prim.Native.Nat.{ℕ, ◌+◌}
 use borrow.Author.Tests.{eqb-true}
 use lib.Dec.{eqb}
 use lib.ListN.{length, replicate}
+use Rattle.std.specs.Prelude.{Ok}
 use Rattle.wire.specs.Choice.{pick, or_else}
-use Rattle.wire.specs.Outcomes.{answered}
+use Rattle.wire.specs.Outcomes.{answered, refused}
 use Rattle.wire.specs.Buffers.{put}
 use Rattle.wire.proofs.ChoiceLaws.{or_none}
 use Rattle.daylog.specs.declared.record.Record.{Record}
@@ -17,11 +18,8 @@ use Rattle.daylog.specs.Rows.{front, rows_of}
 use Rattle.verdict.specs.Verdict.{found_count, findings, book_after}
 use Rattle.verdict.specs.Settle.{written}
 use Rattle.desk.specs.declared.state.State.TheVariants.{Closed, Open}
-use Rattle.desk.specs.declared.state.Answer.TheVariants.{Done as Moved, Refused as NotMoved}
-use Rattle.desk.specs.declared.take.Taken.TheVariants.{Done as Took, Refused as NotTaken}
 use Rattle.counts.specs.Weigh.{reasons_in}
 use Rattle.counts.specs.Counting.{reasons_of}
-use Rattle.desk.specs.declared.end.Ended.TheVariants.{Done, Refused}
 use Rattle.desk.specs.Open.{handed_fault}
 use Rattle.demands.specs.Counts.{day_verdict}
 use Rattle.demands.specs.Calls.{Step, moved, took, ended, full_room}
@@ -59,7 +57,7 @@ module _ (book out : List ℕ) (len n : ℕ) where
 
   abbrev opened : List ℕ → Bool → Ruled
   opened log t = record {
-    reply = moved (pick t (Moved (Open (day_in log []))) (NotMoved n));
+    reply = moved (pick t (Ok (Open (day_in log []))) (refused n));
     after = pick t (on (during log [])) (on idle);
   }
 
@@ -77,7 +75,7 @@ module _ (book out : List ℕ) (len n : ℕ) where
     taken l row t = record {
       reply =
           let next = Open (record { head = header_of l; taken = length rs + 1 }) in
-          took (pick t (Took next (reasons_in l row)) (NotTaken n));
+          took (pick t (Ok (next, reasons_in l row)) (refused n));
       after = pick t (on (during l (record_of row ∷ rs))) (on (during l rs));
     }
 
@@ -90,7 +88,7 @@ module _ (book out : List ℕ) (len n : ℕ) where
         go true e = record {
           told =
               λ i.
-              told_by (took (Took Closed (reasons_of (tables_same log log' s i) (same (eqb-true n 0 e) i)))) book out;
+              told_by (took (Ok (Closed, reasons_of (tables_same log log' s i) (same (eqb-true n 0 e) i)))) book out;
           course = subst (λ (r : Record). Twin (during log (record_of row ∷ rs)) (during log' (r ∷ rs)))
               (same (eqb-true n 0 e)) (both_open s);
           len = refl;
@@ -101,7 +99,7 @@ module _ (book out : List ℕ) (len n : ℕ) where
     closed l t =
         let v = day_verdict (tables_of l) rs in
         let buffers = written v (header_of l).date book out in record {
-          reply = ended (pick t (Done Closed (found_count v)) (Refused n));
+          reply = ended (pick t (Ok (Closed, found_count v)) (refused n));
           after = pick t (paper idle buffers.0 buffers.1 len) (on (during l rs));
         }
 
@@ -115,7 +113,7 @@ module _ (book out : List ℕ) (len n : ℕ) where
               λ i.
               let v = day_verdict (tables_same log log' s i) rs in
               let buffers = written v (date_same log log' s i) book out in
-              told_by (ended (Done Closed (found_count v))) buffers.0 buffers.1;
+              told_by (ended (Ok (Closed, found_count v))) buffers.0 buffers.1;
           course = both_idle;
           len = refl;
         }

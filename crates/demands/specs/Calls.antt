@@ -1,24 +1,17 @@
 -- Any list of calls as customers make them: "each call is handed the state, tables, counts and book as the call before
 -- left them". What a call gives is what its contract promises, and nothing else is known of it.
-use Rattle.std.specs.Prelude.{ℕ, ◌*◌, List, [], ◌∷◌, map}
-use Rattle.posting.specs.declared.fresh.NewBook.{NewBook}
+use Rattle.std.specs.Prelude.{ℕ, ◌*◌, List, [], ◌∷◌, map, ⊤, Result, Ok, Err}
+use Rattle.wire.specs.Outcomes.{number_in as number_of}
+use Rattle.wire.specs.declared.refusal.Refusal.{Refusal}
+use Rattle.counts.specs.declared.weigh.Reasons.{Reasons}
 use Rattle.book.specs.declared.ask.Asked.{Asked}
 use Rattle.rules.specs.Kinds.{most_kinds}
-use Rattle.posting.specs.Fresh.{fresh_number}
-use Rattle.book.specs.Ask.{ask_number}
 use Rattle.desk.specs.declared.state.State.{State}
-use Rattle.desk.specs.declared.state.Answer.{Answer}
-use Rattle.desk.specs.declared.state.Answer.TheVariants.{Done, Refused}
-use Rattle.desk.specs.declared.take.Taken.{Taken}
-use Rattle.desk.specs.declared.take.Taken.TheVariants.{Done as TakeDone, Refused as TakeRefused}
-use Rattle.desk.specs.declared.end.Ended.{Ended}
-use Rattle.desk.specs.declared.end.Ended.TheVariants.{Done as EndDone, Refused as EndRefused}
-use Rattle.desk.specs.Answers.{number_of}
 use Rattle.desk.specs.Books.{FreshGives, AskGives}
-use Rattle.desk.specs.Take.{taken_number, TakeGives}
+use Rattle.desk.specs.Take.{TakeGives}
 use Rattle.desk.specs.Open.{OpenGives}
 use Rattle.desk.specs.Abandon.{AbandonGives}
-use Rattle.desk.specs.End.{end_number, EndGives}
+use Rattle.desk.specs.End.{EndGives}
 
 -- ---- what a customer does
 -- the six calls, with what a caller makes up; header with tables, record and end record are bytes
@@ -34,20 +27,20 @@ pub data Step : Type 0 where
 
 -- an answer, of each call's kind
 pub data Reply : Type 0 where
-  made : NewBook → Reply
-  moved : Answer → Reply
-  took : Taken → Reply
-  ended : Ended → Reply
-  told : Asked → Reply
+  made : Result ⊤ Refusal → Reply
+  moved : Result State Refusal → Reply
+  took : Result (State × Reasons) Refusal → Reply
+  ended : Result (State × ℕ) Refusal → Reply
+  told : Result Asked Refusal → Reply
   lent : Reply
 
 -- the paper's number: the refusal's, or 0 for none
 abbrev pub number_in : Reply → ℕ
-number_in (made a) = fresh_number a
+number_in (made a) = number_of a
 number_in (moved a) = number_of a
-number_in (took a) = taken_number a
-number_in (ended a) = end_number a
-number_in (told a) = ask_number a
+number_in (took a) = number_of a
+number_in (ended a) = number_of a
+number_in (told a) = number_of a
 number_in lent = 0
 
 -- what goes from call to call: the state, the tables lent at the last opening that was accepted, and the buffers
@@ -71,48 +64,48 @@ abbrev pub numbers : List Given → List ℕ
 numbers gs = map (λ g. number_in g.reply) gs
 
 -- a refusal leaves the state, and the tables of the day that is open
-abbrev pub state_after : State → Answer → State
-state_after old (Done new) = new
-state_after old (Refused number) = old
+abbrev pub state_after : State → Result State Refusal → State
+state_after old (Ok new) = new
+state_after old (Err why) = old
 
-abbrev pub log_after : List ℕ → List ℕ → Answer → List ℕ
-log_after old log (Done new) = log
-log_after old log (Refused number) = old
+abbrev pub log_after : List ℕ → List ℕ → Result State Refusal → List ℕ
+log_after old log (Ok new) = log
+log_after old log (Err why) = old
 
-abbrev pub take_state : State → Taken → State
-take_state old (TakeDone new why) = new
-take_state old (TakeRefused number) = old
+abbrev pub take_state : State → Result (State × Reasons) Refusal → State
+take_state old (Ok taken) = taken.0
+take_state old (Err why) = old
 
-abbrev pub end_state : State → Ended → State
-end_state old (EndDone new found) = new
-end_state old (EndRefused number) = old
+abbrev pub end_state : State → Result (State × ℕ) Refusal → State
+end_state old (Ok closed) = closed.0
+end_state old (Err why) = old
 
 -- ---- what each may give, by its contract; a buffer that is not lent to it to write is as it was
 pub data Gives (w : Desk) : Step → Given → Type 0 where
-  fresh_gives : {rulebook : ℕ} {a : NewBook} {book : List ℕ}
+  fresh_gives : {rulebook : ℕ} {a : Result ⊤ Refusal} {book : List ℕ}
       → FreshGives w.book rulebook a book
       → Gives w (make_book rulebook)
       (record { reply = made a; after = desk_of w.state w.log w.counts book w.out })
-  open_gives : {log : List ℕ} {a : Answer} {counts : List ℕ}
+  open_gives : {log : List ℕ} {a : Result State Refusal} {counts : List ℕ}
       → OpenGives w.state log w.book w.counts a counts
       → Gives w (open_day log)
       (record {
         reply = moved a;
         after = desk_of (state_after w.state a) (log_after w.log log a) counts w.book w.out;
       })
-  take_gives : {row : List ℕ} {a : Taken} {counts : List ℕ}
+  take_gives : {row : List ℕ} {a : Result (State × Reasons) Refusal} {counts : List ℕ}
       → TakeGives w.state w.log row w.counts a counts
       → Gives w (take_record row)
       (record { reply = took a; after = desk_of (take_state w.state a) w.log counts w.book w.out })
-  end_gives : {row : List ℕ} {a : Ended} {book out : List ℕ}
+  end_gives : {row : List ℕ} {a : Result (State × ℕ) Refusal} {book out : List ℕ}
       → EndGives w.state w.log row w.book w.counts w.out a book out
       → Gives w (end_day row)
       (record { reply = ended a; after = desk_of (end_state w.state a) w.log w.counts book out })
-  abandon_gives : {a : Answer}
+  abandon_gives : {a : Result State Refusal}
       → AbandonGives w.state a
       → Gives w abandon_day
       (record { reply = moved a; after = desk_of (state_after w.state a) w.log w.counts w.book w.out })
-  ask_gives : {group kind family : ℕ} {a : Asked}
+  ask_gives : {group kind family : ℕ} {a : Result Asked Refusal}
       → AskGives w.book group kind family a
       → Gives w (ask_book group kind family) (record { reply = told a; after = w })
   lend_gives : {out : List ℕ}

@@ -1,7 +1,8 @@
 -- Demand 1: "Each call ends with an answer whatever it is handed. A refusal gives the number the specification names,
 -- in the order it names, and book, counts and findings stay exactly as they were." The statements; proofs/Demand1 has
 -- the theorems under the same names.
-use Rattle.std.specs.Prelude.{◌≡◌, List, [], ◌∷◌, ℕ, length}
+use Rattle.std.specs.Prelude.{◌≡◌, List, [], ◌∷◌, ℕ, length, Result, Ok, Err}
+use Rattle.wire.specs.declared.refusal.Refusal.{Refusal}
 use Rattle.rules.specs.Ladders.{rung}
 use Rattle.daylog.specs.Header.{tables_of}
 use Rattle.book.specs.Shape.{shape_of}
@@ -11,8 +12,7 @@ use Rattle.desk.specs.Books.{fresh_fault, ask_fault}
 use Rattle.desk.specs.Open.{open_fault}
 use Rattle.counts.specs.declared.weigh.Reasons.{Reasons}
 use Rattle.counts.specs.Weigh.{reasons_in}
-use Rattle.desk.specs.declared.take.Taken.{Taken}
-use Rattle.desk.specs.declared.take.Taken.TheVariants.{Done, Refused}
+use Rattle.desk.specs.declared.state.State.{State}
 use Rattle.desk.specs.Take.{take_fault}
 use Rattle.desk.specs.End.{cell_verdict, end_fault, end_found}
 use Rattle.desk.specs.Abandon.{abandon_fault}
@@ -53,9 +53,9 @@ passed_on why =
     ∷ why.second.over ∷ []
 
 -- "a refusal passes on no clause"
-abbrev pub clauses_in : Taken → List ℕ
-clauses_in (Done state why) = passed_on why
-clauses_in (Refused number) = []
+abbrev pub clauses_in : Result (State × Reasons) Refusal → List ℕ
+clauses_in (Ok taken) = passed_on taken.1
+clauses_in (Err why) = []
 
 unfoldable pub values_in : Reply → List ℕ
 values_in (made a) = []

@@ -1,8 +1,8 @@
 -- The same steps by the rules alone: an open day is the list of the records that it took. No cells.
-use Rattle.std.specs.Prelude.{ℕ, ◌+◌, not, List, [], ◌∷◌, map, leb, eqb, length}
+use Rattle.std.specs.Prelude.{ℕ, ◌+◌, not, List, [], ◌∷◌, map, leb, eqb, length, Result, Ok}
 use Rattle.wire.specs.Choice.{pick, or_else}
-use Rattle.wire.specs.Outcomes.{answered}
-use Rattle.posting.specs.declared.fresh.NewBook.TheVariants.{Made, Refused as NotMade}
+use Rattle.wire.specs.Outcomes.{answered, refused}
+use Rattle.wire.specs.declared.refusal.Refusal.{Refusal}
 use Rattle.book.specs.Fits.{book_fault}
 use Rattle.daylog.specs.declared.record.Record.{Record}
 use Rattle.daylog.specs.Header.{header_of, tables_of}
@@ -10,13 +10,9 @@ use Rattle.daylog.specs.Records.{record_of}
 use Rattle.daylog.specs.Rows.{row_size}
 use Rattle.desk.specs.declared.state.Day.{Day}
 use Rattle.desk.specs.declared.state.State.TheVariants.{Closed, Open}
-use Rattle.desk.specs.declared.take.Taken.TheVariants.{Done as Took, Refused as NotTaken}
-use Rattle.desk.specs.declared.end.Ended.TheVariants.{Done, Refused}
 use Rattle.verdict.specs.Verdict.{found_count}
 use Rattle.verdict.specs.Settle.{short_fault, written}
 use Rattle.desk.specs.declared.state.State.{State}
-use Rattle.desk.specs.declared.state.Answer.{Answer}
-use Rattle.desk.specs.declared.state.Answer.TheVariants.{Done as Moved, Refused as NotMoved}
 use Rattle.desk.specs.Books.{fresh_fault, ask_answer}
 use Rattle.counts.specs.Weigh.{reasons_in, record_fault}
 use Rattle.desk.specs.Open.{handed_fault}
@@ -63,8 +59,8 @@ end_refusal log rs row book room =
 
 -- ---- what is left where the number is 0, and where it is not
 -- an answer that moves the state
-abbrev pub moved_by : ℕ → State → Answer
-moved_by fault next = answered fault (Moved next) NotMoved
+abbrev pub moved_by : ℕ → State → Result State Refusal
+moved_by fault next = answered fault (Ok next) refused
 
 -- a fresh book, or the buffer as it was
 unfoldable pub fresh_book : List ℕ → (rulebook : ℕ) → List ℕ
@@ -89,7 +85,7 @@ unfoldable pub take_ruled : Paper → List ℕ → List Record → List ℕ → 
 take_ruled p log rs row fault = record {
   reply =
       let next = Open (record { head = header_of log; taken = length rs + 1 }) in
-      took (answered fault (Took next (reasons_in log row)) NotTaken);
+      took (answered fault (Ok (next, reasons_in log row)) refused);
   after = pick (eqb fault 0) (at p (during log (record_of row ∷ rs))) p;
 }
 
@@ -98,7 +94,7 @@ unfoldable pub end_ruled : Paper → List ℕ → List Record → ℕ → Ruled
 end_ruled p log rs fault =
     let v = day_verdict (tables_of log) rs in
     let buffers = written v (header_of log).date p.book p.out in record {
-      reply = ended (answered fault (Done Closed (found_count v)) Refused);
+      reply = ended (answered fault (Ok (Closed, found_count v)) refused);
       after = pick (eqb fault 0) (resting p buffers.0 buffers.1) p;
     }
 
@@ -110,15 +106,15 @@ no10 p = record { reply = moved (moved_by 10 Closed); after = p }
 unfoldable pub rule : Paper → Course → Step → Ruled
 rule p course (make_book rulebook) =
     let fault = fresh_fault (length p.book) rulebook in record {
-      reply = made (answered fault Made NotMade);
+      reply = made (answered fault (Ok tt) refused);
       after = record { course = p.course; book = fresh_book p.book rulebook; out = p.out; len = p.len };
     }
 rule p course (lend_findings out) =
     record { reply = lent; after = record { course = p.course; book = p.book; out = out; len = p.len } }
 rule p course (ask_book group kind family) = record { reply = told (ask_answer p.book group kind family); after = p }
 rule p idle (open_day log) = open_ruled p log (handed_fault log p.book p.len)
-rule p idle (take_record row) = record { reply = took (NotTaken 10); after = p }
-rule p idle (end_day row) = record { reply = ended (Refused 10); after = p }
+rule p idle (take_record row) = record { reply = took (refused 10); after = p }
+rule p idle (end_day row) = record { reply = ended (refused 10); after = p }
 rule p idle abandon_day = no10 p
 rule p (during log rs) (open_day other) = no10 p
 rule p (during log rs) (take_record row) = take_ruled p log rs row (take_number log rs row)

@@ -6,12 +6,16 @@ use Prim.Native.Nat.{ℕ, ◌+◌, ◌-◌, ◌*◌, ◌^◌, ◌≤◌, ◌<◌
 use native.Mathlib.Omega.{arith}
 use borrow.Author.Tests.{lt-ltb, le-ltb}
 use lib.ListN.{length, get_or, take, drop, length-take, length-drop}
+use Rattle.std.specs.Prelude.{Result, Ok, Err}
+use Rattle.wire.specs.declared.refusal.Refusal.{Refusal}
+use Rattle.wire.specs.declared.refusal.Refusal.TheVariants.{FindingsShort}
 use Rattle.wire.proofs.ChoiceLaws.{or_else_lem, or_none, pick_yes, pick_no}
 use Rattle.wire.proofs.BelowLaws.{count_le}
 use Rattle.rules.specs.declared.kinds.Kinds.{Kinds}
 use Rattle.rules.specs.Kinds.{kinds_of, kinds_in, most_kinds}
 use Rattle.rules.proofs.KindLaws.{few, kinds_most}
-use Rattle.wire.proofs.AnswerLaws.{outcome_map, answer_refused, answer_done}
+use Rattle.wire.proofs.AnswerLaws.{outcome_map, answer_done}
+use Rattle.wire.proofs.RefusalLaws.{refuse}
 use Rattle.daylog.specs.declared.header.Header.{Header}
 use Rattle.tables.specs.Entries.{entries}
 use Rattle.daylog.specs.Header.{header_of, tables_of}
@@ -21,17 +25,13 @@ use Rattle.posting.specs.Raise.{hit_at}
 use Rattle.book.specs.Shape.{day_shape, shape_of}
 use Rattle.book.specs.Fits.{book_fault}
 use Rattle.book.proofs.FitsLaws.{Fits, fits}
-use Rattle.verdict.specs.declared.settle.Settled.{Settled}
-use Rattle.verdict.specs.declared.settle.Settled.TheVariants.{Found, Refused}
 use Rattle.verdict.specs.Verdict.{found_count, found_in}
 use Rattle.verdict.specs.Settle.{short_fault, SettleGives}
 use Rattle.verdict.proofs.SettleLaws.{long_fault}
 use Rattle.verdict.proofs.SameVerdict.{settle_same}
 use Rattle.desk.specs.declared.state.Day.{Day}
+use Rattle.desk.specs.declared.state.State.{State}
 use Rattle.desk.specs.declared.state.State.TheVariants.{Closed}
-use Rattle.desk.specs.declared.end.Ended.{Ended}
-use Rattle.desk.specs.declared.end.Ended.TheVariants.{Done, Refused as NotEnded}
-use Rattle.desk.specs.declared.end.Ending.TheVariants.{Finds, Refused as NotFound}
 use Rattle.desk.specs.Open.{kinds_for}
 use Rattle.desk.specs.Take.{sizes_fault}
 use Rattle.desk.specs.Offences.{kinds_on, verdict_on}
@@ -91,9 +91,9 @@ unfolding day_shape
 book_long day log book len h = h.fit.facts.long
 
 -- ---- settling's answer in ending's words
-abbrev pub ended_by : Settled → Ended
-ended_by (Found n) = Done Closed n
-ended_by (Refused n) = NotEnded n
+abbrev pub ended_by : Result ℕ Refusal → Result (State × ℕ) Refusal
+ended_by (Ok n) = Ok (Closed, n)
+ended_by (Err why) = Err why
 
 module _ (day : Day) (log c : List ℕ) (e : day.head ≡ header_of log) (good : GoodLog day.head log)
     (small : (j : ℕ) → get_or log j 0 < 256) (none : cells_fault (kinds_for day.head) day.taken c ≡ 0) where
@@ -105,8 +105,9 @@ module _ (day : Day) (log c : List ℕ) (e : day.head ≡ header_of log) (good :
       sym (or_else_lem (cells_fault (kinds_on (tables_of log)) day.taken c) _
       (rw (← kinds_are day.head log c e good) none))
 
-  pub ended_by_lem : (book out : List ℕ) → length book ≡ book_size (kinds_for day.head) → {a : Settled} {b o : List ℕ} →
-      SettleGives (day_bytes day.head log c e good) day.head.date book out a b o
+  pub ended_by_lem : (book out : List ℕ) → length book ≡ book_size (kinds_for day.head)
+      → {a : Result ℕ Refusal} {b o : List ℕ}
+      → SettleGives (day_bytes day.head log c e good) day.head.date book out a b o
       → DayEnds (counts_fault day (tables_of log) c (length out)) day.head.date (tables_of log) book c out
       (ended_by a) b o
   unfolding verdict_on day_shape
@@ -124,19 +125,19 @@ module _ (day : Day) (log c : List ℕ) (e : day.head ≡ header_of log) (good :
     n_is : n ≡ found_count (cell_verdict (tables_of log) c)
     n_is = counted ∙ count_same day.head log c e good small
 
-    pub found_short : room < 8 * n → NotFound 20 ≡ day_found (counts_fault day (tables_of log) c room) (tables_of log) c
+    pub found_short : room < 8 * n
+        → Err FindingsShort ≡ day_found (counts_fault day (tables_of log) c room) (tables_of log) c
     unfolding day_found short_fault
     found_short h =
-        answer_refused _ NotFound _ 20
+        refuse FindingsShort _
         (pick_yes _ _ _ _ (lt-ltb room (8 * found_count (cell_verdict (tables_of log) c)) (omega (arith, n_is))) refl
         ∙ room_decides room)
-        (λ z. absurd (omega arith))
 
-    pub found_done : 8 * n ≤ room → Finds n ≡ day_found (counts_fault day (tables_of log) c room) (tables_of log) c
+    pub found_done : 8 * n ≤ room → Ok n ≡ day_found (counts_fault day (tables_of log) c room) (tables_of log) c
     unfolding day_found short_fault
     found_done h =
-        answer_done _ NotFound _
+        answer_done _ _ _
         (sym (room_decides room)
         ∙ sym (pick_no _ _ _ _ (le-ltb room (8 * found_count (cell_verdict (tables_of log) c)) (omega (arith, n_is)))
         refl))
-        (ap Finds n_is)
+        (ap Ok n_is)

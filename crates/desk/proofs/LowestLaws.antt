@@ -1,11 +1,12 @@
 -- Laws of the search for a ladder's lowest place. Assumes nothing.
-use mathlib.Core.Path.{◌≡◌, sym}
-use mathlib.Core.Bool.{Bool, true, false, ◌&&◌}
+use mathlib.Core.Path.{◌≡◌}
+use mathlib.Core.Bool.{Bool, ◌&&◌}
 use mathlib.Core.List.{List}
-use Prim.Native.Nat.{ℕ, ◌+◌, ◌*◌, ◌/◌, ◌<◌}
+use Prim.Native.Nat.{ℕ, ◌+◌, ◌*◌, ◌/◌}
 use lib.Dec.{eqb}
 use lib.ListN.{length, get_or}
-use Rattle.wire.proofs.BelowLaws.{first_at, first_none}
+use Rattle.wire.specs.Below.{first}
+use Rattle.wire.proofs.BelowLaws.{first_cong}
 use Rattle.rules.specs.declared.text.Text.{Text}
 use Rattle.rules.specs.declared.kinds.Kinds.{Kinds}
 use Rattle.rules.specs.declared.measure.Times.{Times}
@@ -30,17 +31,8 @@ module _ (text : Text) (kinds : Kinds) (fams c : List ℕ) (ladder : ℕ) where
   unfolding reached_at in_cells
   tested number e k = rw (ladder_cell kinds ladder k, e)
 
-  module _ (number : Times) (e : number ≡ enough text (kind_at kinds ladder)) where
-    abbrev passes : ℕ → Bool
-    passes = tested_at fams c (family_at ladder) (ladder / 16 * 32) number
-
-    pub place_here : (k : ℕ) → k < length fams → ((j : ℕ) → j < k → passes j ≡ false) → passes k ≡ true
-        → k ≡ place_at text kinds fams c ladder
-    unfolding place_at lowest
-    place_here k h none here =
-        sym (first_at reached_in k (length fams) h (λ j m. rw (← tested number e j) (none j m))
-        (rw (← tested number e k) here))
-
-    pub place_nowhere : ((j : ℕ) → j < length fams → passes j ≡ false) → length fams ≡ place_at text kinds fams c ladder
-    unfolding place_at lowest
-    place_nowhere none = sym (first_none reached_in (length fams) (λ j m. rw (← tested number e j) (none j m)))
+  pub lowest_is : (number : Times) → number ≡ enough text (kind_at kinds ladder)
+      → first (tested_at fams c (family_at ladder) (ladder / 16 * 32) number) (length fams)
+      ≡ place_at text kinds fams c ladder
+  unfolding place_at lowest
+  lowest_is number e = first_cong _ reached_in (length fams) (λ k l. tested number e k)

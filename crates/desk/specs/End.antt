@@ -1,7 +1,8 @@
 -- 01, "The calls and their refusals": ending a day. "End: 10, 1, 16, 19 (tables), 11, 15, 17, 18, 9, 19 (cells), 20."
-use Rattle.std.specs.Prelude.{ℕ, Bool, not, List, leb, eqb, length, get_or}
+use Rattle.std.specs.Prelude.{ℕ, Bool, not, List, leb, eqb, length, get_or, Result, Ok, Err}
 use Rattle.wire.specs.Choice.{pick, or_else}
-use Rattle.wire.specs.Outcomes.{answered, Outcome}
+use Rattle.wire.specs.Outcomes.{answered, refused, Outcome}
+use Rattle.wire.specs.declared.refusal.Refusal.{Refusal}
 use Rattle.wire.specs.Below.{every}
 use Rattle.wire.specs.Bytes.{le}
 use Rattle.rules.specs.declared.kinds.Kinds.{Kinds}
@@ -16,10 +17,6 @@ use Rattle.verdict.specs.Settle.{short_fault, written}
 use Rattle.desk.specs.declared.state.Day.{Day}
 use Rattle.desk.specs.declared.state.State.{State}
 use Rattle.desk.specs.declared.state.State.TheVariants.{Closed, Open}
-use Rattle.desk.specs.declared.end.Ended.{Ended}
-use Rattle.desk.specs.declared.end.Ended.TheVariants.{Done, Refused}
-use Rattle.desk.specs.declared.end.Ending.{Ending}
-use Rattle.desk.specs.declared.end.Ending.TheVariants.{Finds, Refused as NotFound}
 use Rattle.desk.specs.Take.{sizes_fault}
 use Rattle.desk.specs.Offences.{kinds_on, verdict_on}
 
@@ -71,30 +68,28 @@ abbrev pub date_of : State → ℕ
 date_of Closed = 0
 date_of (Open day) = day.head.date
 
--- the paper's number of an answer: the refusal's, or 0 for none; and its value, the number of findings
-abbrev pub end_number : Ended → ℕ
-end_number (Done state found) = 0
-end_number (Refused number) = number
-
-abbrev pub end_found : Ended → ℕ
-end_found (Done state found) = found
-end_found (Refused number) = 0
+-- an answer's value, the number of findings, 0 of a refusal
+abbrev pub end_found : Result (State × ℕ) Refusal → ℕ
+end_found (Ok closed) = closed.1
+end_found (Err why) = 0
 
 -- a day of a date with its tables and counts ends, unless `fault`: the day closed with the number of findings, or the
 -- refusal; the book, and the findings
-abbrev pub DayEnds : (fault date : ℕ) → Tables → (book c out : List ℕ) → Ended → (book' out' : List ℕ) → Type 0
+abbrev pub DayEnds : (fault date : ℕ) → Tables → (book c out : List ℕ)
+    → Result (State × ℕ) Refusal → (book' out' : List ℕ) → Type 0
 DayEnds fault date t book c out a book' out' =
     let v = cell_verdict t c in
-    Outcome fault (Done Closed (found_count v)) Refused (written v date book out) (book, out) a (book', out')
+    Outcome fault (Ok (Closed, found_count v)) refused (written v date book out) (book, out) a (book', out')
 
 -- what `end` gives
-abbrev pub EndGives : State → (log row book c out : List ℕ) → Ended → (book' out' : List ℕ) → Type 0
+abbrev pub EndGives : State → (log row book c out : List ℕ)
+    → Result (State × ℕ) Refusal → (book' out' : List ℕ) → Type 0
 EndGives state log row book c out =
     DayEnds (end_fault state log row book c (length out)) (date_of state) (tables_of log) book c out
 
 -- what `would_end` gives: the number of findings, or the refusal
-unfoldable pub day_found : (fault : ℕ) → Tables → List ℕ → Ending
-day_found fault t c = answered fault (Finds (found_count (cell_verdict t c))) NotFound
+unfoldable pub day_found : (fault : ℕ) → Tables → List ℕ → Result ℕ Refusal
+day_found fault t c = answered fault (Ok (found_count (cell_verdict t c))) refused
 
-abbrev pub would_end : State → (log row book c : List ℕ) → (room : ℕ) → Ending
+abbrev pub would_end : State → (log row book c : List ℕ) → (room : ℕ) → Result ℕ Refusal
 would_end state log row book c room = day_found (end_fault state log row book c room) (tables_of log) c

@@ -1,7 +1,8 @@
 -- 01, "The calls and their refusals": opening a day. "Open: 10, 1 (under 16), 2, 3, 4, 5, 6, 1, 7, 8, 17, 18, 9, 16."
-use Rattle.std.specs.Prelude.{ℕ, List, ◌++◌, ltb, length, drop, replicate}
+use Rattle.std.specs.Prelude.{ℕ, List, ◌++◌, ltb, length, drop, replicate, Result, Ok}
 use Rattle.wire.specs.Choice.{pick, or_else}
-use Rattle.wire.specs.Outcomes.{Outcome}
+use Rattle.wire.specs.Outcomes.{refused, Outcome}
+use Rattle.wire.specs.declared.refusal.Refusal.{Refusal}
 use Rattle.rules.specs.declared.kinds.Kinds.{Kinds}
 use Rattle.rules.specs.Kinds.{kinds_of}
 use Rattle.daylog.specs.declared.header.Header.{Header}
@@ -11,8 +12,6 @@ use Rattle.book.specs.Fits.{book_fault}
 use Rattle.desk.specs.declared.state.Day.{Day}
 use Rattle.desk.specs.declared.state.State.{State}
 use Rattle.desk.specs.declared.state.State.TheVariants.{Closed, Open}
-use Rattle.desk.specs.declared.state.Answer.{Answer}
-use Rattle.desk.specs.declared.state.Answer.TheVariants.{Done, Refused}
 
 -- the kinds of the rulebook that a header names
 abbrev pub kinds_for : Header → Kinds
@@ -41,7 +40,7 @@ unfoldable pub zeroed : Kinds → List ℕ → List ℕ
 zeroed kinds c = replicate (cells kinds) 0 ++ drop (cells kinds) c
 
 -- what `open` gives: the open day or the refusal, and the counts
-abbrev pub OpenGives : State → (log book c : List ℕ) → Answer → List ℕ → Type 0
+abbrev pub OpenGives : State → (log book c : List ℕ) → Result State Refusal → List ℕ → Type 0
 OpenGives state log book c =
-    Outcome (open_fault state log book (length c)) (Done (Open (day_of log))) Refused
+    Outcome (open_fault state log book (length c)) (Ok (Open (day_of log))) refused
     (zeroed (kinds_for (header_of log)) c) c

@@ -1,20 +1,17 @@
 -- 01, "The calls and their refusals": taking a record. "Take: 10, 1, 16, 19 (tables), 11, 12, 13, 14, 19 (cells)." With
 -- 02, K5: it passes on the clauses that spared the record's orders, "a refusal passes on no clause".
-use Rattle.std.specs.Prelude.{ℕ, ◌+◌, not, List, ltb, eqb, length}
+use Rattle.std.specs.Prelude.{ℕ, ◌+◌, not, List, ltb, eqb, length, Result, Ok}
 use Rattle.wire.specs.Choice.{pick, or_else}
-use Rattle.wire.specs.Outcomes.{answered, Outcome}
+use Rattle.wire.specs.Outcomes.{answered, refused, Outcome}
+use Rattle.wire.specs.declared.refusal.Refusal.{Refusal}
 use Rattle.daylog.specs.Header.{header_of}
 use Rattle.daylog.specs.Records.{record_length}
 use Rattle.places.specs.Places.{cells}
 use Rattle.desk.specs.declared.state.Day.{Day}
 use Rattle.desk.specs.declared.state.State.{State}
 use Rattle.desk.specs.declared.state.State.TheVariants.{Closed, Open}
-use Rattle.desk.specs.declared.take.Taken.{Taken}
-use Rattle.desk.specs.declared.take.Taken.TheVariants.{Done, Refused}
 use Rattle.counts.specs.declared.weigh.Plan.{Plan}
 use Rattle.counts.specs.declared.weigh.Reasons.{Reasons}
-use Rattle.counts.specs.declared.weigh.Weighed.{Weighed}
-use Rattle.counts.specs.declared.weigh.Weighed.TheVariants.{Counts, Refused as Uncounted}
 use Rattle.counts.specs.Weigh.{plan_in, reasons_in, weigh_fault}
 use Rattle.counts.specs.Cells.{plan_fault, raised}
 use Rattle.desk.specs.Open.{kinds_for}
@@ -42,14 +39,14 @@ take_fault Closed log row c = 10
 take_fault (Open day) log row c = day_fault day log row c
 
 -- what `would_take` gives: what the record would count for and why it is spared, or the refusal
-unfoldable pub would_take : State → (log row c : List ℕ) → Weighed
+unfoldable pub would_take : State → (log row c : List ℕ) → Result (Plan × Reasons) Refusal
 would_take state log row c =
-    answered (take_fault state log row c) (Counts (plan_in log row) (reasons_in log row)) Uncounted
+    answered (take_fault state log row c) (Ok (plan_in log row, reasons_in log row)) refused
 
 -- the same of an open day, before the counts are looked at
-unfoldable pub day_weighed : Day → (log row : List ℕ) → (len : ℕ) → Weighed
+unfoldable pub day_weighed : Day → (log row : List ℕ) → (len : ℕ) → Result (Plan × Reasons) Refusal
 day_weighed day log row len =
-    answered (held_fault day log row len) (Counts (plan_in log row) (reasons_in log row)) Uncounted
+    answered (held_fault day log row len) (Ok (plan_in log row, reasons_in log row)) refused
 
 -- one more record is taken
 abbrev pub one_more : Day → Day
@@ -59,19 +56,14 @@ abbrev pub take_next : State → State
 take_next Closed = Closed
 take_next (Open day) = Open (one_more day)
 
--- the paper's number of an answer: the refusal's, or 0 for none
-abbrev pub taken_number : Taken → ℕ
-taken_number (Done state why) = 0
-taken_number (Refused number) = number
-
 -- a record of an open day that counts by a plan: the day with one more and the clauses, or 14 or 19, and the counts
-abbrev pub PlanTaken : Day → Plan → Reasons → List ℕ → Taken → List ℕ → Type 0
+abbrev pub PlanTaken : Day → Plan → Reasons → List ℕ → Result (State × Reasons) Refusal → List ℕ → Type 0
 PlanTaken day p why c =
     let kinds = kinds_for day.head in
-    Outcome (plan_fault kinds day.taken p c) (Done (Open (one_more day)) why) Refused (raised kinds p c) c
+    Outcome (plan_fault kinds day.taken p c) (Ok (Open (one_more day), why)) refused (raised kinds p c) c
 
 -- what `take` gives: the next state with the clauses or the refusal, and the counts
-abbrev pub TakeGives : State → (log row c : List ℕ) → Taken → List ℕ → Type 0
+abbrev pub TakeGives : State → (log row c : List ℕ) → Result (State × Reasons) Refusal → List ℕ → Type 0
 TakeGives state log row c =
-    Outcome (take_fault state log row c) (Done (take_next state) (reasons_in log row)) Refused
+    Outcome (take_fault state log row c) (Ok (take_next state, reasons_in log row)) refused
     (raised (kinds_for (header_of log)) (plan_in log row) c) c

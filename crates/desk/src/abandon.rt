@@ -1,14 +1,14 @@
 // Abandoning a day: it closes, and nothing is written.
 ghost use Rattle.desk.specs.Abandon.{AbandonGives};
 
-use crate::state::{Answer, State};
-use wire::refusal::WRONG_STATE;
+use crate::state::State;
+use wire::refusal::Refusal;
 
-pub fn abandon(state: State) -> Answer
+pub fn abandon(state: State) -> Result<State, Refusal>
     ensures { AbandonGives state result }
 {
     match state {
-        State::Open(_) => Answer::Done(State::Closed),
-        State::Closed => Answer::Refused(WRONG_STATE),
+        State::Open(_) => Ok(State::Closed),
+        State::Closed => Err(Refusal::WrongState),
     }
 }

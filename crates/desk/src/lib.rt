@@ -4,6 +4,7 @@
 
 pub mod abandon;
 pub mod books;
+mod closing;
 pub mod end;
 mod ladders;
 pub mod open;

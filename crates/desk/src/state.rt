@@ -1,4 +1,4 @@
-// The state that the caller keeps, and the answer of a call that moves it.
+// The state that the caller keeps. A call that moves it answers the next one; where it refuses, the state stays.
 use daylog::header::Header;
 
 // An open day: the whole header as numbers, and the records taken.
@@ -12,11 +12,4 @@ pub struct Day {
 pub enum State {
     Closed,
     Open(Day),
-}
-
-// The next state, or the refusal's number: then the state stays as it was.
-#[derive(Clone, Copy)]
-pub enum Answer {
-    Done(State),
-    Refused(u32),
 }

@@ -6,8 +6,9 @@ use crate::lookup::{Codes, KIND_STEP, entry_of, is_listed, place_of};
 use crate::sheet::sheet;
 use rules::text::Text;
 
+// Numbers, and no enum: `clause_of`, `clauses_of` and `entry_of` promise just these (`clause`, `clauses`).
 // An order's clauses, for self-trade, frequent and large cancels.
-#[derive(Clone, Copy)]
+#[derive(Debug, Clone, Copy, PartialEq, Eq, Hash)]
 pub struct Clauses {
     pub own: u8,
     pub frequent: u8,

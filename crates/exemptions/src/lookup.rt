@@ -5,9 +5,10 @@ ghost use Rattle.exemptions.specs.Sheet.{listed, place_of, codes_at, entry_of};
 use crate::sheet::sheet;
 use rules::text::{Text, is_rulebook};
 
+// Numbers, and no enums: `entry_of` promises an answer for every number, and an enum would ask more of callers.
 // What an entry is for: the text of the day, the contract's type, the kind of offence, the order's instruction and its
 // purpose.
-#[derive(Clone, Copy)]
+#[derive(Debug, Clone, Copy, PartialEq, Eq, Hash)]
 pub struct Codes {
     pub text: Text,
     pub sort: u8,

@@ -12,6 +12,9 @@ use std::random::RandomSource;
 // What stands in a name for the letters that are made up.
 const BLANKS: &[u8; 6] = b"XXXXXX";
 
+// What a letter that is made up may be.
+const LETTERS: &[u8; 62] = b"0123456789ABCDEFGHIJKLMNOPQRSTUVWXYZabcdefghijklmnopqrstuvwxyz";
+
 // How many names are tried while each is taken: as many as the letters of three places make.
 const NAMES: u32 = 238328;
 
@@ -27,16 +30,8 @@ fn make_like(file: &File, like: &Metadata) {
     }
 }
 
-// A digit or a letter.
 fn letter(x: u8) -> u8 {
-    let place = x % 62;
-    if place < 10 {
-        return b'0' + place;
-    }
-    if place < 36 {
-        return b'A' + (place - 10);
-    }
-    b'a' + (place - 36)
+    LETTERS[(x % 62) as usize]
 }
 
 // A number's digits to the base of 62, the lowest first.
@@ -65,25 +60,32 @@ fn create(rt: &HostRuntime, name: &[u8]) -> io::Result<File> {
     how.open(rt, text_of(name)?)
 }
 
+// The letters from a place on are made up.
+fn create_tried(rt: &HostRuntime, name: &mut [u8], at: usize, tried: u32) -> io::Result<File>
+    requires { at ≤ length name.old }
+    ensures { length name.new ≡ length name.old }
+{
+    make_up(rt, &mut name[at..], tried);
+    create(rt, name)
+}
+
+fn is_taken(made: &io::Result<File>) -> bool {
+    matches!(made, Err(e) if e.kind() == ErrorKind::AlreadyExists)
+}
+
 // Makes the letters from a place on up until they name a file that is new.
 fn create_new(rt: &HostRuntime, name: &mut [u8], at: usize) -> io::Result<File>
     requires { at ≤ length name.old }
     ensures { length name.new ≡ length name.old }
 {
-    let mut why = io::Error::from(ErrorKind::AlreadyExists);
-    for tried in 0..NAMES {
-        make_up(rt, &mut name[at..], tried);
-        match create(rt, name) {
-            Ok(file) => return Ok(file),
-            Err(e) => {
-                why = e;
-                if e.kind() != ErrorKind::AlreadyExists {
-                    break;
-                }
-            }
+    let mut made = create_tried(rt, name, at, 0);
+    for tried in 1..NAMES {
+        if !is_taken(&made) {
+            break;
         }
+        made = create_tried(rt, name, at, tried);
     }
-    Err(why)
+    made
 }
 
 // Makes a file whose name is made up where `name` has XXXXXX at its end, and answers it, or why it cannot be made. It

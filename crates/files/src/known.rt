@@ -5,10 +5,7 @@ use std::{fs, io};
 
 // The name as text, as the system takes it here.
 pub(crate) fn text_of(name: &[u8]) -> io::Result<&str> {
-    match std::str::from_utf8(name) {
-        Ok(text) => Ok(text),
-        Err(_) => Err(io::Error::from_raw_os_error(EINVAL)),
-    }
+    std::str::from_utf8(name).map_err(|_| io::Error::from_raw_os_error(EINVAL))
 }
 
 // Owner, group, mode and kind of the file of that name; an error where the system does not tell.

@@ -1,6 +1,7 @@
 // Writing: all of a buffer, and seen on the disk where that is asked for.
 ghost use Rattle.std.specs.Prelude.{◌≡◌, ◌≤◌, length, take, IsOk};
-ghost use Rattle.std.specs.Io.KnownBytes.{Appends};
+ghost use Rattle.std.specs.Io.{WritesAtMost};
+ghost use Rattle.std.specs.Io.KnownBytes.{Appends, WriteAppends};
 ghost use Rattle.files.specs.Status.{Status};
 
 use crate::input::Got;
@@ -10,55 +11,41 @@ use std::fs::File;
 use std::io;
 use std::io::{ErrorKind, Write, writer};
 
-// What a call answers: the system's own way.
-const DONE: i32 = 0;
+// What a call answers, in the system's own way. They stay numbers and no Result: `Status` says which they may be, and
+// the edits failed_is_minus_two and done_is_one are of other numbers.
+pub const DONE: i32 = 0;
 
-const FAILED: i32 = -1;
+pub const FAILED: i32 = -1;
 
-// One write; where a signal cut it off before a byte went, it is made again. No bytes where it failed.
-fn write_some<W: Write>(to: &mut W, part: &[u8]) -> Got
-    ensures count { result.count ≤ length part.now }
-    ensures bytes { Appends (W.contents to.old) (W.contents to.new) (take result.count part.now) }
+// One write; where a signal cut it off before a byte went, it is made again. It is written beside `read_some`, since a
+// function over both calls would have to tell in its contract of a closure's runs.
+fn write_some<W: Write>(to: &mut W, part: &[u8]) -> io::Result<usize>
+    ensures count { WritesAtMost result part.now }
+    ensures bytes { WriteAppends (W.contents to.old) (W.contents to.new) result part.now }
 {
-    let mut why = io::Error::from(ErrorKind::Interrupted);
-    for _ in 0..TRIES {
+    for _ in 1..TRIES {
         match to.write(part) {
-            Ok(count) => {
-                return Got {
-                    count,
-                    failed: None,
-                };
-            }
-            Err(e) => {
-                why = e;
-                if e.kind() != ErrorKind::Interrupted {
-                    break;
-                }
-            }
+            Err(e) if e.kind() == ErrorKind::Interrupted => {}
+            Ok(count) => return Ok(count),
+            Err(e) => return Err(e),
         }
     }
-    Got {
-        count: 0,
-        failed: Some(why),
-    }
+    to.write(part)
 }
 
-// How many of the bytes went, from the first on: all, or fewer where a write failed, and then why.
+// How many of the bytes went, from the first on: all, or fewer where a write failed, and then why. std's write_all
+// tells no count.
 pub fn put_all<W: Write>(to: &mut W, bytes: &[u8]) -> Got
     ensures count { result.count ≤ length bytes.now }
     ensures bytes { Appends (W.contents to.old) (W.contents to.new) (take result.count bytes.now) }
 {
     let mut done = 0;
     while done < bytes.len() {
-        let put = write_some(to, &bytes[done..]);
-        let count = put.count;
-        if count == 0 {
-            return Got {
-                count: done,
-                failed: put.failed,
-            };
+        match write_some(to, &bytes[done..]) {
+            Ok(0) => break,
+            Ok(count) => done += count,
+            Err(why) => return Got::cut_off(done, why),
         }
-        done += count;
     }
     Got {
         count: done,
@@ -83,12 +70,17 @@ pub fn put(rt: &HostRuntime, text: &[u8]) -> io::Result<()>
     went(put_all(&mut writer(rt), text), text)
 }
 
-// Says the words and why the last call failed.
-fn give_up(rt: &HostRuntime, words: &[u8], why: &io::Error) -> i32
+// What a call answers that came to this; where it failed the words are said, and why.
+fn status(rt: &HostRuntime, words: &[u8], done: io::Result<()>) -> i32
     ensures { Status result }
 {
-    fail(rt, words, why);
-    FAILED
+    match done {
+        Ok(()) => DONE,
+        Err(e) => {
+            fail(rt, words, &e);
+            FAILED
+        }
+    }
 }
 
 fn write_and_flush(file: &mut File, bytes: &[u8]) -> io::Result<()> {
@@ -100,22 +92,14 @@ fn write_and_flush(file: &mut File, bytes: &[u8]) -> io::Result<()> {
 pub fn store(rt: &HostRuntime, mut file: File, bytes: &[u8], words: &[u8]) -> i32
     ensures { Status result }
 {
-    match write_and_flush(&mut file, bytes) {
-        Ok(()) => DONE,
-        Err(e) => give_up(rt, words, &e),
-    }
+    status(rt, words, write_and_flush(&mut file, bytes))
 }
 
 // A file system that flushes no folders keeps them by itself.
 fn flush(folder: &File) -> io::Result<()> {
     match folder.sync_all() {
-        Ok(()) => Ok(()),
-        Err(e) => {
-            if matches!(e.raw_os_error(), Some(EINVAL)) {
-                return Ok(());
-            }
-            Err(e)
-        }
+        Err(e) if e.raw_os_error() == Some(EINVAL) => Ok(()),
+        flushed => flushed,
     }
 }
 
@@ -127,8 +111,5 @@ fn flush_working_folder(rt: &HostRuntime) -> io::Result<()> {
 pub fn flush_folder(rt: &HostRuntime, words: &[u8]) -> i32
     ensures { Status result }
 {
-    match flush_working_folder(rt) {
-        Ok(()) => DONE,
-        Err(e) => give_up(rt, words, &e),
-    }
+    status(rt, words, flush_working_folder(rt))
 }

@@ -16,13 +16,10 @@ pub fn say(rt: &HostRuntime, words: &[u8]) {
 fn words_end(text: &[u8]) -> usize
     ensures { result ≤ length text.now }
 {
-    let mut end = text.len();
-    for i in 0..text.len() {
-        if text[i] == b'(' {
-            end = i.saturating_sub(1);
-        }
+    match text.iter().rposition(|x| *x == b'(') {
+        Some(bracket) => bracket.saturating_sub(1),
+        None => text.len(),
     }
-    end
 }
 
 // A reason of the system's ends in its number, as " (os error 2)", which is left out.
@@ -36,8 +33,8 @@ fn say_reason(rt: &HostRuntime, text: &[u8], is_numbered: bool) {
 
 // As much of a room as was written, which ends at a place.
 fn say_written(rt: &HostRuntime, room: &[u8], at: u64, is_numbered: bool) {
-    if at <= room.len() as u64 {
-        say_reason(rt, &room[..at as usize], is_numbered);
+    if let Some(text) = room.get(..at as usize) {
+        say_reason(rt, text, is_numbered);
     }
 }
 

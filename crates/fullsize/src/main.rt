@@ -6,25 +6,22 @@ ghost use Rattle.std.specs.Prelude.{◌≤◌};
 
 use counts::weigh::Reasons;
 use daylog::header::header_of;
-use desk::end::Ended;
-use desk::state::{Answer, Day, State};
-use desk::take::Taken;
+use desk::books::fresh;
+use desk::end::end;
+use desk::open::open;
+use desk::state::{Day, State};
+use desk::take::take;
 use exemptions::clause::Clauses;
-use itoa::Buffer;
-use std::io::Print;
-use wire::write::{put16, put32};
+use places::{MOST_BOOK, MOST_CELLS, MOST_FINDINGS};
+use wire::refusal::Refusal;
+use wire::write::{put8, put16, put32};
 
-fn put8(t: &mut [u8], at: usize, x: u8) {
-    if at < t.len() {
-        t[at] = x;
-    }
-}
-
-// "AXD", the rulebook, version 1, 5 March 2024.
+// "AXD", the rulebook, version 1, 5 March 2024. positions_full says which lines stand there too; its `head` and its
+// `contracts` make another log, with longer entries.
 fn head(t: &mut [u8], rulebook: u8) {
-    put8(t, 0, 65);
-    put8(t, 1, 88);
-    put8(t, 2, 68);
+    put8(t, 0, b'A');
+    put8(t, 1, b'X');
+    put8(t, 2, b'D');
     put8(t, 3, rulebook);
     put16(t, 4, 1);
     put32(t, 6, 20240305);
@@ -54,7 +51,7 @@ fn accounts(t: &mut [u8]) {
 }
 
 fn next(seed: u32) -> u32 {
-    ((1664525 * (seed as u64) + 1013904223) % 4294967296) as u32
+    seed.wrapping_mul(1664525).wrapping_add(1013904223)
 }
 
 // A record by the seed: every fourth is a trade, the others are cancels, for every purpose.
@@ -89,92 +86,63 @@ fn order_sum(order: Clauses) -> u64
     (order.own as u64) + (order.frequent as u64) + (order.over as u64)
 }
 
-// What a run came to: the refusal's number, 0 for none, and the sum of all clauses.
-#[derive(Clone, Copy)]
-struct Came {
-    fault: u32,
-    clauses: u64,
-}
-
-fn run(start: State, t: &[u8], c: &mut [u32], n: u32) -> Came {
+// So many records taken: the sum of all clauses.
+fn run(start: State, t: &[u8], c: &mut [u32], n: u32) -> Result<u64, Refusal> {
     let mut row = [0u8; 20];
     let mut state = start;
     let mut seed = 1;
-    let mut clauses = 0;
+    let mut clauses: u64 = 0;
     for _ in 0..n {
         seed = next(seed);
         draw(&mut row, seed);
-        match desk::take::take(state, t, &row, c) {
-            Taken::Done(s, why) => {
-                state = s;
-                clauses = std::num::wrapping_add_u64(clauses, clauses_in(why));
-            }
-            Taken::Refused(fault) => {
-                return Came { fault, clauses };
-            }
-        }
+        let (after, why) = take(state, t, &row, c)?;
+        state = after;
+        clauses = clauses.wrapping_add(clauses_in(why));
     }
-    Came { fault: 0, clauses }
-}
-
-fn wide(x: u32) -> u64 {
-    x as u64
+    Ok(clauses)
 }
 
 fn total(c: &[u32]) -> u64 {
-    let mut sum: u64 = 0;
-    for i in 0..c.len() {
-        sum = std::num::wrapping_add_u64(sum, wide(c[i]));
-    }
-    sum
+    c.iter()
+        .fold(0, |sum: u64, n| sum.wrapping_add(u64::from(*n)))
 }
 
 // Every cell at its number in rulebook 2.
 fn fill_cells(c: &mut [u32]) {
-    for i in 0..c.len() {
-        c[i] = number_of(i / 32 % 3);
+    for (i, cell) in c.iter_mut().enumerate() {
+        *cell = number_of(i / 32 % 3);
     }
 }
 
 fn number_of(kind: usize) -> u32 {
-    if kind == 0 {
-        return 5;
+    match kind {
+        0 => 5,
+        1 => 500,
+        _ => 100,
     }
-    if kind == 1 { 500 } else { 100 }
 }
 
 fn checksum(s: &[u8]) -> u64 {
-    let mut h: u64 = 0;
-    for i in 0..s.len() {
-        h = step(h, s[i]);
-    }
-    h
+    s.iter().fold(0, |h, x| step(h, *x))
 }
 
 fn step(h: u64, x: u8) -> u64 {
     ((h % 4294967291) * 257 + (x as u64) + 1) % 4294967291
 }
 
-fn write(rt: &HostRuntime, text: &[u8]) {
-    let _ = Print::write_all(rt, text);
+fn open_and_run(t: &[u8], b: &[u8], c: &mut [u32]) -> Result<u64, Refusal> {
+    let state = open(State::Closed, t, b, c)?;
+    run(state, t, c, 1000000)
 }
 
-fn say(rt: &HostRuntime, n: u64, end: &[u8]) {
-    let mut digits = Buffer::new();
-    write(rt, digits.format(n).as_bytes());
-    write(rt, end);
-}
-
+// A 0 for no refusal, the sum of the counts and that of the clauses.
 fn take_all(rt: &HostRuntime, t: &[u8], b: &[u8], c: &mut [u32]) {
-    match desk::open::open(State::Closed, t, b, c) {
-        Answer::Done(state) => {
-            let came = run(state, t, c, 1000000);
-            say(rt, came.fault as u64, b" ");
-            say(rt, total(c), b" ");
-            say(rt, came.clauses, b"\n");
+    match open_and_run(t, b, c) {
+        Ok(clauses) => {
+            let _ = println!(rt; "0 {} {clauses}", total(c));
         }
-        Answer::Refused(x) => {
-            say(rt, x as u64, b"\n");
+        Err(refusal) => {
+            let _ = println!(rt; "{}", refusal.number());
         }
     }
 }
@@ -186,14 +154,12 @@ fn end_full(rt: &HostRuntime, t: &[u8], b: &mut [u8], c: &[u32], out: &mut [u8])
     put32(&mut row, 4, 500);
     let head = header_of(t);
     let state = State::Open(Day { head, taken: 500 });
-    match desk::end::end(state, t, &row, b, c, out) {
-        Ended::Done(_, n) => {
-            say(rt, n as u64, b" ");
-            say(rt, checksum(out), b" ");
-            say(rt, checksum(b), b"\n");
+    match end(state, t, &row, b, c, out) {
+        Ok((_, n)) => {
+            let _ = println!(rt; "{n} {} {}", checksum(out), checksum(b));
         }
-        Ended::Refused(x) => {
-            say(rt, x as u64, b"\n");
+        Err(refusal) => {
+            let _ = println!(rt; "{}", refusal.number());
         }
     }
 }
@@ -203,13 +169,13 @@ fn main(rt: HostRuntime) {
     head(&mut t, 1);
     contracts(&mut t);
     accounts(&mut t);
-    let mut b = [0u8; 12304];
-    let mut c = [0u32; 12288];
-    desk::books::fresh(&mut b, 1);
+    let mut b = [0u8; MOST_BOOK];
+    let mut c = [0u32; MOST_CELLS];
+    let _ = fresh(&mut b, 1);
     take_all(&rt, &t, &b, &mut c);
     head(&mut t, 2);
-    desk::books::fresh(&mut b, 2);
+    let _ = fresh(&mut b, 2);
     fill_cells(&mut c);
-    let mut out = [0u8; 49152];
+    let mut out = [0u8; MOST_FINDINGS];
     end_full(&rt, &t, &mut b, &c, &mut out);
 }

@@ -5,26 +5,25 @@
 use files::names::{create, remove};
 use files::output::{flush_folder, put, store};
 use files::said::say;
-use office::said::{ROOM, fail, message};
+use office::said::{fail, message};
 use places::{MOST_BOOK, book_size};
 use positions::books::BOOK;
-use posting::fresh::NewBook;
 use rules::kinds::kinds_of;
 use std::io;
+use wire::refusal::Refusal;
 use words::asked::{count_words, word_at};
 use words::number::number_in;
 
-// The rulebook that the first word names: one digit and no more. Anything else is 0, which no rulebook has.
+// The rulebook that the first word names: one digit and no more. Anything else is 0, which no rulebook has: no Option,
+// since a fresh book refuses 0 where it refuses 3.
 fn rulebook_asked(rt: &HostRuntime) -> u64 {
-    let mut word = [0u8; 1];
-    let len = word_at(rt, 1, &mut word);
-    number_in(&word[0..len]) as u64
+    let mut room = [0u8; 1];
+    number_in(word_at(rt, 1, &mut room)) as u64
 }
 
 fn is_positions_asked(rt: &HostRuntime) -> bool {
-    let mut word = [0u8; 9];
-    let len = word_at(rt, 2, &mut word);
-    &word[..len] == b"positions".as_slice()
+    let mut room = [0u8; 9];
+    word_at(rt, 2, &mut room) == b"positions".as_slice()
 }
 
 // The file is made only where the name is free, so what is taken away after a failure is our own.
@@ -36,19 +35,17 @@ fn make(rt: &HostRuntime, file: &[u8], book: &[u8]) -> bool {
             return false;
         }
     };
-    let mut line = [0u8; ROOM];
-    let unwritten = message(&mut line, b"newbook", file, b" cannot be written");
-    if store(rt, made, book, &line[0..unwritten]) < 0 {
+    let unwritten = message(b"newbook", file, b" cannot be written");
+    if store(rt, made, book, unwritten.as_bytes()) < 0 {
         remove(rt, file);
         return false;
     }
     let unflushed = message(
-        &mut line,
         b"newbook",
         file,
         b" is made, its folder cannot be flushed to disk",
     );
-    flush_folder(rt, &line[0..unflushed]);
+    flush_folder(rt, unflushed.as_bytes());
     true
 }
 
@@ -78,14 +75,14 @@ fn tell_usage(rt: &HostRuntime) {
 }
 
 // Makes the file of a book that was made fresh, or says how to ask.
-fn finish(rt: &HostRuntime, fresh: NewBook, file: &[u8], book: &[u8]) {
+fn finish(rt: &HostRuntime, fresh: Result<(), Refusal>, file: &[u8], book: &[u8]) {
     match fresh {
-        NewBook::Made => {
+        Ok(()) => {
             if make(rt, file, book) {
                 tell_made(rt, file);
             }
         }
-        NewBook::Refused(_) => tell_usage(rt),
+        Err(_) => tell_usage(rt),
     }
 }
 

@@ -1,91 +1,73 @@
 // How a clerk's run ends: with the day's findings and the new book, or with a refusal.
-ghost use Rattle.std.specs.Prelude.{◌≤◌, length};
 ghost use Rattle.files.specs.Status.{Status};
 
+use crate::clerk::Clerk;
 use crate::keep::{make_ready, replace};
 use crate::lines::write_count;
 use crate::print::print_day;
-use crate::said::fail;
 use files::names::remove;
-use words::line::add_text;
+use files::output::{DONE, FAILED};
+use words::line::Line;
 
-const FAILED: i32 = -1;
+// Room for the name of a file beside the book.
+const NAME: usize = 64;
+
+// A day that was judged: its log, the book before it and after it, and room for findings, of which so many were found.
+#[derive(Clone, Copy)]
+pub struct Day<'a> {
+    pub log: &'a [u8],
+    pub old: &'a [u8],
+    pub new: &'a [u8],
+    pub findings: &'a [u8],
+    pub found: usize,
+}
 
 // The name of a file beside the book, whose last six letters are made up when the file is made.
-fn name_beside(name: &mut [u8], file: &[u8]) -> usize
-    ensures { result ≤ length name.new }
-{
-    let at = add_text(name, 0, file);
-    add_text(name, at, b".new.XXXXXX")
+fn name_beside(file: &[u8]) -> Line<NAME> {
+    let mut name = Line::new();
+    name.add_text(file);
+    name.add_text(b".new.XXXXXX");
+    name
 }
 
 // The new book is ready, in a file of that name, before the findings go out, and takes the old one's place after them:
-// where they cannot be printed, the day may be run again.
-fn finish_by(
-    rt: &HostRuntime,
-    name: &mut [u8],
-    who: &[u8],
-    file: &[u8],
-    mark: &[u8],
-    log: &[u8],
-    old: &[u8],
-    new: &[u8],
-    findings: &[u8],
-    found: usize,
-) -> i32
-    ensures { Status result }
-{
-    if !make_ready(rt, who, file, name, new) {
-        return FAILED;
+// where they cannot be printed, the day may be run again. Whether all of it went; if not, it was said.
+fn finish_by(rt: &HostRuntime, clerk: Clerk, day: Day, name: &mut [u8]) -> bool {
+    if !make_ready(rt, clerk, name, day.new) {
+        return false;
     }
-    match print_day(rt, mark, log, findings, found) {
-        Ok(()) => replace(rt, who, file, name, old, new),
+    match print_day(rt, clerk.mark, day.log, day.findings, day.found) {
+        Ok(()) => replace(rt, clerk, name, day.old, day.new),
         Err(why) => {
-            let failed = fail(
+            clerk.fail(
                 rt,
-                who,
-                file,
                 b" is left as it was, standard output cannot be written",
                 &why,
             );
             remove(rt, name);
-            failed
+            false
         }
     }
 }
 
 // Prints the day's findings and puts the new book in the old one's place. -1 where something failed, and then it was
-// said.
-pub fn finish(
-    rt: &HostRuntime,
-    who: &[u8],
-    file: &[u8],
-    mark: &[u8],
-    log: &[u8],
-    old: &[u8],
-    new: &[u8],
-    findings: &[u8],
-    found: usize,
-) -> i32
+// said: a status, and no Result, as `files::output::DONE` says.
+pub fn finish(rt: &HostRuntime, clerk: Clerk, day: Day) -> i32
     ensures { Status result }
 {
-    let mut name = [0u8; 64];
-    let end = name_beside(&mut name, file);
-    finish_by(
-        rt,
-        &mut name[0..end],
-        who,
-        file,
-        mark,
-        log,
-        old,
-        new,
-        findings,
-        found,
-    )
+    let beside = name_beside(clerk.file);
+    let mut room = [0u8; NAME];
+    let name = &mut room[..beside.as_bytes().len()];
+    name.copy_from_slice(beside.as_bytes());
+    if finish_by(rt, clerk, day, name) {
+        DONE
+    } else {
+        FAILED
+    }
 }
 
-// Prints the refusal alone. -1 where that failed, and then it was said.
+// Prints the refusal alone. -1 where that failed, and then it was said. It takes any number, as it always did: a
+// Refusal would ask more of callers.
 pub fn refuse(rt: &HostRuntime, who: &[u8], number: u32) -> i32
     ensures { Status result }
 {

@@ -1,5 +1,5 @@
 // What comes on standard input: bytes, and of a day log first its header with the tables.
-ghost use Rattle.std.specs.Prelude.{◌≤◌, length};
+ghost use Rattle.std.specs.Prelude.{◌≤◌, length, IfSome};
 
 use crate::said::fail;
 use daylog::header::header_of;
@@ -25,39 +25,39 @@ pub fn fill_from_input(rt: &HostRuntime, who: &[u8], buf: &mut [u8]) -> Got
     got
 }
 
-// The bytes of the two tables, or 0 where the header's numbers allow none: opening then refuses by the header alone.
-fn tables_size(head: &[u8]) -> usize
-    ensures { result ≤ 4352 }
+// The bytes of the two tables, or none where the header's numbers allow none.
+fn tables_size(head: &[u8]) -> Option<usize>
+    ensures { IfSome result (λ size. size ≤ 4352) }
 {
     let h = header_of(head);
     let contracts = h.contracts as usize;
     let accounts = h.accounts as usize;
     if 32 < contracts {
-        return 0;
+        return None;
     }
     if 512 < accounts {
-        return 0;
+        return None;
     }
     if (contracts == 0) | (accounts == 0) {
-        return 0;
+        return None;
     }
-    8 * contracts + 8 * accounts
+    Some(8 * contracts + 8 * accounts)
 }
 
-// Reads the header and its tables, as far as they are there, and answers how many bytes came: none into a buffer that
-// has not room for just the longest.
-pub fn read_tables(rt: &HostRuntime, who: &[u8], log: &mut [u8]) -> usize
-    ensures { result ≤ length log.new }
+// Reads the header and its tables, as far as they are there, and answers the bytes that came: none into a room that is
+// not just the longest's.
+pub fn read_tables<'a>(rt: &HostRuntime, who: &[u8], room: &'a mut [u8]) -> &'a [u8]
+    ensures { length result.now ≤ length room.old }
 {
-    if log.len() != TABLES {
-        return 0;
+    if room.len() != TABLES {
+        return &room[..0];
     }
-    let head = fill_from_input(rt, who, &mut log[0..16]);
-    let count = head.count;
-    if count < 16 {
-        return count;
+    let head = fill_from_input(rt, who, &mut room[..16]);
+    if head.count < 16 {
+        return &room[..head.count];
     }
-    let end = 16 + tables_size(log);
-    let tables = fill_from_input(rt, who, &mut log[16..end]);
-    16 + tables.count
+    // Without tables opening refuses by the header alone.
+    let end = 16 + tables_size(room).unwrap_or(0);
+    let tables = fill_from_input(rt, who, &mut room[16..end]);
+    &room[..16 + tables.count]
 }

@@ -1,149 +1,112 @@
 // The book's file, in the working folder: read, and replaced by a rename, so that it is always the old book or the new
 // one.
 ghost use Rattle.std.specs.Prelude.{◌≤◌, length};
-ghost use Rattle.files.specs.Status.{Status};
 
-use crate::said::{ROOM, fail, message, warn};
+use crate::clerk::Clerk;
+use crate::said::fail;
 use files::beside::make_beside;
 use files::input::read_plain;
 use files::names::{remove, rename};
-use files::output::{flush_folder, store};
+use files::output::{DONE, flush_folder, store};
 use places::MOST_BOOK;
 
 // A byte more than the longest book: a file that is longer is no book.
 pub const FILE: usize = MOST_BOOK + 1;
 
-// Reads the book and answers how many bytes it has: all the room where the file is longer, and none where it is not
-// there or cannot be read.
-pub fn read_book(rt: &HostRuntime, who: &[u8], file: &[u8], book: &mut [u8]) -> usize
-    ensures { result ≤ length book.new }
+// Reads the book and answers its bytes: all the room where the file is longer, and none where it is not there or cannot
+// be read.
+pub fn read_book<'a>(rt: &HostRuntime, clerk: Clerk, room: &'a mut [u8]) -> &'a [u8]
+    ensures { length result.now ≤ length room.old }
 {
-    let mut line = [0u8; ROOM];
-    let end = message(&mut line, who, file, b" cannot be read");
-    read_plain(rt, file, book, &line[0..end])
+    let unread = clerk.message(b" cannot be read");
+    read_plain(rt, clerk.file, room, unread.as_bytes())
 }
 
 // Makes the new book ready in a file of this clerk's own, beside the book: `name` ends in XXXXXX, which is made up. It
 // is done before anything is printed, so that a full disk is said instead of findings.
-pub(crate) fn make_ready(
-    rt: &HostRuntime,
-    who: &[u8],
-    file: &[u8],
-    name: &mut [u8],
-    new: &[u8],
-) -> bool {
-    let mut line = [0u8; ROOM];
-    let end = message(
-        &mut line,
-        who,
-        file,
-        b" is left as it was, the file beside it cannot be written",
-    );
-    match make_beside(rt, name, file) {
+pub(crate) fn make_ready(rt: &HostRuntime, clerk: Clerk, name: &mut [u8], new: &[u8]) -> bool {
+    let unwritten = clerk.message(b" is left as it was, the file beside it cannot be written");
+    match make_beside(rt, name, clerk.file) {
         Err(why) => {
-            fail(
+            clerk.fail(
                 rt,
-                who,
-                file,
                 b" is left as it was, no file can be made beside it",
                 &why,
             );
             false
         }
         Ok(made) => {
-            if store(rt, made, new, &line[0..end]) < 0 {
+            let is_stored = store(rt, made, new, unwritten.as_bytes()) == DONE;
+            if !is_stored {
                 remove(rt, name);
-                return false;
             }
-            true
+            is_stored
         }
     }
 }
 
 // Whether the book's file has these bytes now.
-fn holds(rt: &HostRuntime, who: &[u8], file: &[u8], book: &[u8]) -> bool {
+fn holds(rt: &HostRuntime, clerk: Clerk, book: &[u8]) -> bool {
     let mut now = [0u8; FILE];
-    let size = read_book(rt, who, file, &mut now);
-    &now[0..size] == book
+    read_book(rt, clerk, &mut now) == book
 }
 
-fn see_folder(rt: &HostRuntime, who: &[u8], file: &[u8]) -> i32
-    ensures { Status result }
-{
-    let mut line = [0u8; ROOM];
-    let end = message(
-        &mut line,
-        who,
-        file,
-        b" is the new book, its folder cannot be flushed to disk",
-    );
-    flush_folder(rt, &line[0..end])
+// Whether the folder could be flushed; if not, it is said.
+fn see_folder(rt: &HostRuntime, clerk: Clerk) -> bool {
+    let unflushed = clerk.message(b" is the new book, its folder cannot be flushed to disk");
+    flush_folder(rt, unflushed.as_bytes()) == DONE
 }
 
 // A rename that answered an error may have been made all the same: what the book is is looked at, and then said.
-fn look_again(rt: &HostRuntime, who: &[u8], file: &[u8], old: &[u8], new: &[u8]) {
-    if holds(rt, who, file, new) {
-        warn(rt, who, file, b" is the new book all the same\n");
-        see_folder(rt, who, file);
+fn look_again(rt: &HostRuntime, clerk: Clerk, old: &[u8], new: &[u8]) {
+    if holds(rt, clerk, new) {
+        clerk.warn(rt, b" is the new book all the same\n");
+        see_folder(rt, clerk);
         return;
     }
-    if holds(rt, who, file, old) {
-        warn(rt, who, file, b" is left as it was\n");
+    if holds(rt, clerk, old) {
+        clerk.warn(rt, b" is left as it was\n");
         return;
     }
-    warn(
-        rt,
-        who,
-        file,
-        b" is neither the book as it was nor the new one\n",
-    );
+    clerk.warn(rt, b" is neither the book as it was nor the new one\n");
 }
 
 // The book's file is the one that was made ready; a last look tells whether another's rename followed in the same
 // moment, from a clerk that had looked before this one's.
-fn settle(rt: &HostRuntime, who: &[u8], file: &[u8], new: &[u8]) -> i32
-    ensures { Status result }
-{
-    let flushed = see_folder(rt, who, file);
-    if holds(rt, who, file, new) {
-        return flushed;
+fn settle(rt: &HostRuntime, clerk: Clerk, new: &[u8]) -> bool {
+    let is_flushed = see_folder(rt, clerk);
+    if holds(rt, clerk, new) {
+        return is_flushed;
     }
-    warn(
+    clerk.warn(
         rt,
-        who,
-        file,
         b" is not this day's book when looked at again: run the day again\n",
-    )
+    );
+    false
 }
 
-// Puts the file that was made ready in the book's place, if the book is still what the day was judged on.
-pub(crate) fn replace(
-    rt: &HostRuntime,
-    who: &[u8],
-    file: &[u8],
-    name: &[u8],
-    old: &[u8],
-    new: &[u8],
-) -> i32
-    ensures { Status result }
-{
-    if !holds(rt, who, file, old) {
-        let failed = warn(
+// Puts the file that was made ready in the book's place, if the book is still what the day was judged on. Whether all
+// of it went; if not, it was said.
+pub(crate) fn replace(rt: &HostRuntime, clerk: Clerk, name: &[u8], old: &[u8], new: &[u8]) -> bool {
+    if !holds(rt, clerk, old) {
+        clerk.warn(
             rt,
-            who,
-            file,
             b" is not what this day was judged on: it is left as it is, without this day\n",
         );
         remove(rt, name);
-        return failed;
+        return false;
     }
-    match rename(rt, name, file) {
-        Ok(()) => settle(rt, who, file, new),
-        Err(why) => {
-            let failed = fail(rt, who, b"the new book cannot be renamed to ", file, &why);
-            look_again(rt, who, file, old, new);
-            remove(rt, name);
-            failed
-        }
+    if let Err(why) = rename(rt, name, clerk.file) {
+        fail(
+            rt,
+            clerk.who,
+            b"the new book cannot be renamed to ",
+            clerk.file,
+            &why,
+        );
+        look_again(rt, clerk, old, new);
+        remove(rt, name);
+        return false;
     }
+    settle(rt, clerk, new)
 }

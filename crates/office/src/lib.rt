@@ -3,6 +3,7 @@
 // file or on a stream; what is said here is what is certain all the same.
 #![tactic(auto)]
 
+pub mod clerk;
 pub mod close;
 pub mod input;
 pub mod keep;

@@ -1,13 +1,11 @@
 // Lines of a program that has nothing to undo: where standard output does not take one, that is said, and the answer
-// is -1.
+// is -1: a status, and no Result, as `files::output::DONE` says.
 ghost use Rattle.files.specs.Status.{Status};
 
 use crate::print::{print_count, print_heading};
 use crate::said::fail;
-use files::output::put;
+use files::output::{DONE, put};
 use std::io;
-
-const DONE: i32 = 0;
 
 fn done_if(rt: &HostRuntime, who: &[u8], taken: io::Result<()>) -> i32
     ensures { Status result }

@@ -2,40 +2,42 @@
 // folder, prints the day's findings and writes the book back. Nothing is printed before the outcome is known.
 #![tactic(auto)]
 
-ghost use Rattle.std.specs.Prelude.{◌≡◌, ◌≤◌, length};
+ghost use Rattle.std.specs.Prelude.{◌≡◌, length};
 
-use files::input::Got;
-use office::close::{finish, refuse};
+use office::clerk::Clerk;
+use office::close::{Day, finish, refuse};
 use office::input::fill_from_input;
 use office::keep::read_book;
 use positions::books::{BOOK, FINDINGS};
 use positions::judge::judge;
 use positions::log::MOST_LOG;
-use verdict::settle::Settled;
 
 // A byte more than the longest: a file that is longer is no book, and a log that is longer is refused by its length.
 const FILE: usize = BOOK + 1;
 
 const LOG: usize = MOST_LOG + 1;
 
+const CLERK: Clerk = Clerk {
+    who: b"position_clerk",
+    file: b"positions.axq",
+    mark: b"AXP ",
+};
+
 fn run(rt: &HostRuntime, log: &[u8], old: &[u8], book: &mut [u8]) {
     let mut findings = [0u8; FINDINGS];
     match judge(log, book, &mut findings) {
-        Settled::Refused(number) => {
-            refuse(rt, b"position_clerk", number);
+        Err(refusal) => {
+            refuse(rt, CLERK.who, refusal.number());
         }
-        Settled::Found(found) => {
-            finish(
-                rt,
-                b"position_clerk",
-                b"positions.axq",
-                b"AXP ",
+        Ok(found) => {
+            let day = Day {
                 log,
                 old,
-                book,
-                &findings,
+                new: book,
+                findings: &findings,
                 found,
-            );
+            };
+            finish(rt, CLERK, day);
         }
     }
 }
@@ -47,19 +49,15 @@ fn room() -> [u8; LOG]
     [0; LOG]
 }
 
-// How many bytes the log has. One that could not be read to its end may have more: it counts as none, and is refused.
-fn whole(got: Got) -> usize
-    ensures { result ≤ got.count }
-{
-    if got.failed.is_some() { 0 } else { got.count }
-}
-
 fn main(rt: HostRuntime) {
-    let mut old = [0u8; FILE];
-    let size = read_book(&rt, b"position_clerk", b"positions.axq", &mut old);
+    let mut last = [0u8; FILE];
+    let old = read_book(&rt, CLERK, &mut last);
     let mut log = room();
-    let got = fill_from_input(&rt, b"position_clerk", &mut log);
-    let end = whole(got);
-    let mut book = old;
-    run(&rt, &log[0..end], &old[0..size], &mut book[0..size]);
+    let got = fill_from_input(&rt, CLERK.who, &mut log);
+    // A log that could not be read to its end may have more: it counts as none, and is refused.
+    let end = got.whole().unwrap_or(0);
+    let mut copy = [0u8; FILE];
+    let book = &mut copy[..old.len()];
+    book.copy_from_slice(old);
+    run(&rt, &log[..end], old, book);
 }

@@ -6,10 +6,13 @@ use borrow.Author.Tests.{ne_eqb}
 use lib.Dec.{eqb}
 use Rattle.wire.specs.Choice.{pick}
 use Rattle.wire.proofs.ChoiceLaws.{pick_no}
-use Rattle.wire.proofs.AnswerLaws.{answer_number, one_outcome}
-use Rattle.posting.specs.Fresh.{fresh_number}
-use Rattle.book.specs.Ask.{ask_answer_as, ask_number}
-use Rattle.verdict.specs.Settle.{settle_number}
+use Rattle.wire.specs.Outcomes.{number_in}
+use Rattle.wire.proofs.AnswerLaws.{one_outcome}
+use Rattle.wire.proofs.RefusalLaws.{number_answered}
+use Rattle.posting.proofs.FreshLaws.{fresh_most}
+use Rattle.book.specs.Ask.{ask_answer_as}
+use Rattle.book.proofs.AskLaws.{ask_most}
+use Rattle.positions.proofs.JudgeLaws.{judge_most}
 use Rattle.position_demands.specs.Calls.{Step, make_book, judge_log, ask_book, lend_findings, Lent, Given, Gives}
 use Rattle.position_demands.specs.Calls.{fresh_gives, judge_gives, ask_gives, lend_gives, Ran, none, next}
 use Rattle.position_demands.specs.Demand1.{AlwaysAnswered, OneAnswer, named_number, NumberNamed, RefusalKeeps}
@@ -53,9 +56,9 @@ one_answer w (c ∷ cs) (g ∷ gs) (h ∷ hs) (next m r) (next n s) =
 -- ---- its number is the one that is named
 pub number_named : NumberNamed
 unfolding named_number ask_answer_as
-number_named w c g (fresh_gives m) = ap fresh_number m.answer ∙ answer_number _ _ fresh_number _ refl refl
-number_named w c g (judge_gives m) = ap settle_number m.answer ∙ answer_number _ _ settle_number _ refl refl
-number_named w c g (ask_gives e) = ap ask_number e ∙ answer_number _ _ ask_number _ refl refl
+number_named w c g (fresh_gives m) = ap number_in m.answer ∙ number_answered _ _ (fresh_most _ _ _)
+number_named w c g (judge_gives m) = ap number_in m.answer ∙ number_answered _ _ (judge_most _ _ _)
+number_named w c g (ask_gives e) = ap number_in e ∙ number_answered _ _ (ask_most _ _ _ _ _)
 number_named w c g lend_gives = refl
 
 -- ---- a refusal leaves everything as it was

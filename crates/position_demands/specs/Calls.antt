@@ -1,12 +1,9 @@
 -- Any list of calls of `positions` as customers make them, each handed book and findings as the call before left them.
 -- What a call gives is what its contract promises, and nothing else is known of it.
-use Rattle.std.specs.Prelude.{ℕ, List, [], ◌∷◌, map}
-use Rattle.posting.specs.declared.fresh.NewBook.{NewBook}
-use Rattle.posting.specs.Fresh.{fresh_number}
+use Rattle.std.specs.Prelude.{ℕ, List, [], ◌∷◌, map, ⊤, Result}
+use Rattle.wire.specs.declared.refusal.Refusal.{Refusal}
+use Rattle.wire.specs.Outcomes.{number_in as number_of}
 use Rattle.book.specs.declared.ask.Asked.{Asked}
-use Rattle.book.specs.Ask.{ask_number}
-use Rattle.verdict.specs.declared.settle.Settled.{Settled}
-use Rattle.verdict.specs.Settle.{settle_number}
 use Rattle.positions.specs.Books.{FreshGives, AskGives}
 use Rattle.positions.specs.Judge.{JudgeGives}
 
@@ -21,16 +18,16 @@ pub data Step : Type 0 where
 
 -- an answer, of each call's kind
 pub data Reply : Type 0 where
-  made : NewBook → Reply
-  judged : Settled → Reply
-  told : Asked → Reply
+  made : Result ⊤ Refusal → Reply
+  judged : Result ℕ Refusal → Reply
+  told : Result Asked Refusal → Reply
   lent : Reply
 
 -- the paper's number: the refusal's, or 0 for none
 abbrev pub number_in : Reply → ℕ
-number_in (made a) = fresh_number a
-number_in (judged a) = settle_number a
-number_in (told a) = ask_number a
+number_in (made a) = number_of a
+number_in (judged a) = number_of a
+number_in (told a) = number_of a
 number_in lent = 0
 
 -- what goes from call to call: there is no state
@@ -55,11 +52,11 @@ numbers gs = map (λ g. number_in g.reply) gs
 
 -- ---- what each may give, by its contract; a buffer that is not lent to it to write is as it was
 pub data Gives (w : Lent) : Step → Given → Type 0 where
-  fresh_gives : {rulebook : ℕ} {a : NewBook} {book : List ℕ} → FreshGives w.book rulebook a book
+  fresh_gives : {rulebook : ℕ} {a : Result ⊤ Refusal} {book : List ℕ} → FreshGives w.book rulebook a book
       → Gives w (make_book rulebook) (given (made a) (lent_of book w.out))
-  judge_gives : {log : List ℕ} {a : Settled} {book out : List ℕ} → JudgeGives log w.book w.out a book out
-      → Gives w (judge_log log) (given (judged a) (lent_of book out))
-  ask_gives : {group kind family : ℕ} {a : Asked} → AskGives w.book group kind family a
+  judge_gives : {log : List ℕ} {a : Result ℕ Refusal} {book out : List ℕ}
+      → JudgeGives log w.book w.out a book out → Gives w (judge_log log) (given (judged a) (lent_of book out))
+  ask_gives : {group kind family : ℕ} {a : Result Asked Refusal} → AskGives w.book group kind family a
       → Gives w (ask_book group kind family) (given (told a) w)
   lend_gives : {out : List ℕ} → Gives w (lend_findings out) (given lent (lent_of w.book out))
 

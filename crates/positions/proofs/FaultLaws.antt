@@ -2,11 +2,12 @@
 use mathlib.Core.Path.{◌≡◌}
 use mathlib.Core.Bool.{true, ◌&&◌}
 use mathlib.Core.List.{List}
-use Prim.Native.Nat.{ℕ}
+use Prim.Native.Nat.{ℕ, ◌≤◌}
+use native.Mathlib.Omega.{arith}
 use borrow.Author.Tests.{leb-true, eqb-true, not-false}
 use lib.Dec.{lit<, leb, eqb}
 use Rattle.wire.specs.Choice.{within}
-use Rattle.wire.proofs.ChoiceLaws.{pick_zero, and_left, and_right, bounds, or_none}
+use Rattle.wire.proofs.ChoiceLaws.{pick_zero, pick_le, and_left, and_right, bounds, or_none, or_most}
 use Rattle.rules.specs.Codes.{is_rulebook}
 use Rattle.calendar.specs.Dates.{real_day}
 use Rattle.daylog.specs.Header.{header_of}
@@ -58,3 +59,16 @@ unfolding log_fault
 log_sound log e =
     let q = or_none (front_fault log) _ e in
     (q.0, not-false _ (pick_zero _ 22 _ (lit< tt) q.1).0)
+
+-- every number is a refusal's
+pub log_most : (log : List ℕ) → log_fault log ≤ 22
+unfolding log_fault front_fault tables_fault
+log_most log =
+    or_most _ _ 22
+    (pick_le _ 22 _ 22 (omega arith)
+    (pick_le _ 22 _ 22 (omega arith)
+    (pick_le _ 22 _ 22 (omega arith)
+    (pick_le _ 22 _ 22 (omega arith)
+    (pick_le _ 22 _ 22 (omega arith)
+    (pick_le _ 22 0 22 (omega arith) (omega arith)))))))
+    (pick_le _ 22 0 22 (omega arith) (omega arith))

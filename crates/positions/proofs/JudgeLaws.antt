@@ -2,48 +2,44 @@
 use mathlib.Core.Path.{◌≡◌, sym, ap, ap₂, ◌∙◌, subst}
 use mathlib.Core.Bool.{true}
 use mathlib.Core.List.{List, []}
-use Prim.Native.Nat.{ℕ, ◌<◌}
+use Prim.Native.Nat.{ℕ, ◌<◌, ◌≤◌}
 use lib.ListN.{length, get_or}
-use Rattle.wire.specs.Outcomes.{Outcome}
-use Rattle.wire.proofs.ChoiceLaws.{or_else_lem}
-use Rattle.wire.proofs.AnswerLaws.{refused_first, then_by}
-use Rattle.rules.specs.declared.kinds.Kinds.TheVariants.{One}
-use Rattle.places.specs.Places.{cells}
+use Rattle.std.specs.Prelude.{Result, Ok, Err}
+use Rattle.wire.specs.declared.refusal.Refusal.{Refusal}
+use Rattle.wire.specs.Outcomes.{refused, checked, Outcome}
+use Rattle.wire.proofs.ChoiceLaws.{or_else_lem, or_most}
+use Rattle.wire.proofs.AnswerLaws.{then_by}
+use Rattle.wire.proofs.RefusalLaws.{keep_on}
 use Rattle.book.specs.declared.shape.Shape.{Shape}
 use Rattle.book.specs.Fits.{fits_fault}
-use Rattle.book.proofs.FitsLaws.{fits}
+use Rattle.book.proofs.FitsLaws.{fits, fits_most}
 use Rattle.daylog.specs.declared.header.Header.{Header}
 use Rattle.daylog.specs.Header.{header_of, text_of}
-use Rattle.verdict.specs.declared.settle.Settled.{Settled}
-use Rattle.verdict.specs.declared.settle.Settled.TheVariants.{Found, Refused}
 use Rattle.verdict.specs.Verdict.{Verdict, found_count, verdict_in}
 use Rattle.verdict.specs.Settle.{settle_fault, written, SettleGives}
 use Rattle.verdict.proofs.SameVerdict.{settle_same}
-use Rattle.verdict.proofs.SettleLaws.{long_fault}
+use Rattle.verdict.proofs.SettleLaws.{long_fault, short_most}
 use Rattle.positions.specs.Books.{position_shape}
 use Rattle.positions.specs.Records.{records_good}
 use Rattle.positions.specs.Log.{limits_part, accounts_part, records_part, log_fault}
 use Rattle.positions.specs.GoodPositions.{GoodPositions}
 use Rattle.positions.specs.Offences.{verdict_on}
 use Rattle.positions.specs.Judge.{log_verdict, judge_fault, JudgeGives}
-use Rattle.positions.specs.Way.{sizes_in, families_in, ids_in, places_in, side_to, long_in, short_in, log_places}
-use Rattle.positions.proofs.FaultLaws.{front_sound, log_sound}
-use Rattle.positions.proofs.SumLaws.{summed_length}
+use Rattle.positions.specs.Way.{sizes_in, families_in, ids_in, places_in, long_in, short_in, log_places}
+use Rattle.positions.proofs.FaultLaws.{front_sound, log_sound, log_most}
 use Rattle.positions.proofs.VerdictLaws.{log_same}
 
--- both sides' sums have a number for each cell
-pub long_length : (log : List ℕ) {c : List ℕ} → c ≡ long_in (header_of log) log → cells One ≡ length c
-unfolding side_to
-long_length log e = rw e (sym (summed_length (cells One) _ _ _))
-
-pub short_length : (log : List ℕ) {c : List ℕ} → c ≡ short_in (header_of log) log → cells One ≡ length c
-unfolding side_to
-short_length log e = rw e (sym (summed_length (cells One) _ _ _))
+-- every number is a refusal's
+pub judge_most : (log book : List ℕ) (room : ℕ) → judge_fault log book room ≤ 22
+unfolding judge_fault
+judge_most log book room =
+    or_most _ _ 22 (log_most log)
+    (or_most _ _ 22 (fits_most position_shape _ _ book) (short_most (log_verdict log) room))
 
 module _ (log book out : List ℕ) where
-  pub log_refused : (n : ℕ) → n ≡ log_fault log → (n ≡ 0 → ⊥) → JudgeGives log book out (Refused n) book out
+  pub log_refused : {r : Refusal} → Err r ≡ checked (log_fault log) → JudgeGives log book out (Err r) book out
   unfolding judge_fault
-  log_refused n e some = refused_first (log_fault log) _ n e some
+  log_refused e = keep_on tt _ (log_fault log) _ e
 
   module _ (h : Header) (is : h ≡ header_of log) (fine : log_fault log ≡ 0) where
     -- the book's refusal, in the words of the code
@@ -52,10 +48,10 @@ module _ (log book out : List ℕ) where
         ≡ fits_fault position_shape (header_of log).rulebook (header_of log).date book
     fits_is shape e = rw (e, is)
 
-    pub book_refused : (shape : Shape) (n : ℕ) → shape ≡ position_shape
-        → n ≡ fits_fault shape h.rulebook h.date book → (n ≡ 0 → ⊥) → JudgeGives log book out (Refused n) book out
+    pub book_refused : (shape : Shape) {r : Refusal} → shape ≡ position_shape
+        → Err r ≡ checked (fits_fault shape h.rulebook h.date book) → JudgeGives log book out (Err r) book out
     unfolding judge_fault
-    book_refused shape n e q some = then_by (log_fault log) _ fine (refused_first _ _ n (q ∙ fits_is shape e) some)
+    book_refused shape e q = then_by (log_fault log) _ fine (keep_on tt _ _ _ (q ∙ ap checked (fits_is shape e)))
 
     -- what is known of the log where no refusal came
     pub log_good : GoodPositions h log
@@ -85,7 +81,7 @@ module _ (log book out : List ℕ) where
     pub settled : ((j : ℕ) → get_or log j 0 < 256) → (shape : Shape) → shape ≡ position_shape
         → fits_fault shape h.rulebook h.date book ≡ 0
         → {longs shorts : List ℕ} → longs ≡ long_in (header_of log) log → shorts ≡ short_in (header_of log) log
-        → {a : Settled} {b o : List ℕ} → SettleGives (lent_by longs shorts) h.date book out a b o
+        → {a : Result ℕ Refusal} {b o : List ℕ} → SettleGives (lent_by longs shorts) h.date book out a b o
         → JudgeGives log book out a b o
     settled small shape e q long short {a} {b} {o} g' =
         let g : SettleGives lent h.date book out a b o =
@@ -97,7 +93,7 @@ module _ (log book out : List ℕ) where
         (λ (x : Header). records_good (limits_part x log) (accounts_part x log) (records_part x log) ≡ true) (sym is)
         (log_sound log fine).1) small in
         subst
-        (λ (f : ℕ). Outcome f (Found (found_count (log_verdict log))) Refused
+        (λ (f : ℕ). Outcome f (Ok (found_count (log_verdict log))) refused
         (written (log_verdict log) (header_of log).date book out) (book, out) a (b, o))
         (fault_is shape e q)
         (subst (λ (x : Header). SettleGives (log_verdict log) x.date book out a b o) is

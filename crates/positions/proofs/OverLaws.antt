@@ -1,15 +1,12 @@
 -- Laws of the search for a ladder's lowest place. Assumes nothing.
 use mathlib.Core.Path.{◌≡◌, sym}
-use mathlib.Core.Bool.{Bool, true, false}
+use mathlib.Core.Bool.{Bool, false}
 use mathlib.Core.List.{List}
-use Prim.Native.Nat.{ℕ, ◌+◌, ◌*◌, ◌/◌, ◌≤◌, ◌<◌}
-use native.Mathlib.Omega.{arith}
+use Prim.Native.Nat.{ℕ, ◌+◌, ◌*◌, ◌/◌}
 use borrow.Author.Tests.{eq-eqb, ne_eqb}
 use lib.Dec.{eqb}
-use lib.ListN.{length, get_or}
-use Rattle.wire.specs.Below.{first}
+use lib.ListN.{get_or}
 use Rattle.wire.proofs.ChoiceLaws.{and_no}
-use Rattle.wire.proofs.BelowLaws.{first_at, first_none}
 use Rattle.rules.specs.declared.text.Text.{Text}
 use Rattle.places.specs.Places.{family_at}
 use Rattle.positions.specs.LimitEntries.{limited_at}
@@ -31,12 +28,3 @@ module _ (text : Text) (contracts fams longs shorts : List ℕ) (ladder : ℕ) w
       → r ≡ overs c
   unfolding over_at
   over_is c r e is = rw (eq-eqb (get_or fams c 0) (family_at ladder) e) is
-
-  -- the first that is over, and none
-  pub over_here : (c : ℕ) → c < length fams → ((j : ℕ) → j < c → overs j ≡ false) → overs c ≡ true
-      → (c ≡ first overs (length fams)) × (c ≤ length fams)
-  over_here c h none here = (sym (first_at overs c (length fams) h none here), omega arith)
-
-  pub over_nowhere : ((j : ℕ) → j < length fams → overs j ≡ false)
-      → (length fams ≡ first overs (length fams)) × (length fams ≤ length fams)
-  over_nowhere none = (sym (first_none overs (length fams) none), omega arith)

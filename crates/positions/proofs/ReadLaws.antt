@@ -5,7 +5,11 @@ use mathlib.Core.List.{List}
 use Prim.Native.Nat.{ℕ, ◌+◌, ◌-◌, ◌*◌, ◌≤◌}
 use native.Mathlib.Omega.{arith}
 use lib.ListN.{length, take, drop, length-take, length-drop}
-use Rattle.wire.proofs.ChoiceLaws.{pick_yes, pick_no, or_first_by, or_else_by}
+use Rattle.std.specs.Prelude.{Err}
+use Rattle.wire.specs.declared.refusal.Refusal.{Refusal}
+use Rattle.wire.specs.Outcomes.{checked}
+use Rattle.wire.proofs.ChoiceLaws.{pick_yes, pick_no, or_else_by}
+use Rattle.wire.proofs.RefusalLaws.{pass_on}
 use Rattle.wire.proofs.PartLaws.{part_of, part_rest}
 use Rattle.tables.specs.Accounts.{accounts_good}
 use Rattle.daylog.specs.declared.header.Header.{Header}
@@ -18,9 +22,9 @@ use Rattle.positions.specs.Way.{long_to, short_to, long_in, short_in}
 use Rattle.positions.proofs.FaultLaws.{front_sound}
 
 -- the log is refused before its records
-pub front_refused : (log : List ℕ) (n : ℕ) → n ≡ front_fault log → (n ≡ 0 → ⊥) → n ≡ log_fault log
+pub front_refused : (log : List ℕ) {r : Refusal} → Err r ≡ checked (front_fault log) → Err r ≡ checked (log_fault log)
 unfolding log_fault
-front_refused log n e some = or_first_by (front_fault log) _ n e some
+front_refused log e = pass_on tt tt (front_fault log) _ e
 
 -- ---- a log without fault up to its records, its parts lent as the code lends them
 module _ (log : List ℕ) (h : Header) (is : h ≡ header_of log) (fine : front_fault log ≡ 0) where

@@ -2,12 +2,13 @@
 -- Assumes nothing.
 use mathlib.Core.Path.{◌≡◌, refl, sym, ap, ap₂, ◌∙◌}
 use mathlib.Core.Bool.{Bool, true, false, not, ◌&&◌}
-use mathlib.Core.List.{List}
+use mathlib.Core.List.{List, []}
 use Prim.Native.Nat.{ℕ, ◌+◌, ◌*◌, ◌≤◌, ◌<◌}
 use native.Mathlib.Omega.{arith}
 use borrow.Author.Tests.{ltb-true, not-false, not-true}
 use lib.Dec.{ltb, eqb}
 use lib.ListN.{length, get_or, replicate}
+use Rattle.std.specs.Simd.{first_chunks}
 use Rattle.wire.specs.Below.{every}
 use Rattle.wire.proofs.ByteLaws.{four_low}
 use Rattle.wire.proofs.ChoiceLaws.{pick_yes, and_left, and_right}
@@ -24,6 +25,7 @@ use Rattle.positions.specs.LimitEntries.{limit_count, limited_at, limit_place}
 use Rattle.positions.specs.Records.{record_count, position_at, contract_before, account_before, fields_good, good_at}
 use Rattle.positions.specs.Records.{records_good}
 use Rattle.positions.specs.Way.{added_in, cell_at, side_to}
+use Rattle.positions.proofs.EntryLaws.{position_here}
 use Rattle.positions.proofs.SumLaws.{summed_none, summed_more, summed_most}
 
 -- an amount has 32 bits
@@ -46,6 +48,20 @@ module _ (contracts accounts records : List ℕ) (good : accounts_good accounts 
     pub account_is : account ≡ account_before records k
     pub place_is : place ≡ placed r.contract
     pub entry_is : entry ≡ found_account accounts r.account
+
+  -- for the record that the chunks have there
+  pub looked : {k contract account place : ℕ} {r : Position} {entry : List ℕ} (rows : List (List ℕ))
+      → rows ≡ first_chunks 16 (record_count records) records → k < record_count records
+      → r ≡ position_at (get_or rows k []) 0 → contract ≡ contract_before records k
+      → account ≡ account_before records k → place ≡ placed r.contract → entry ≡ found_account accounts r.account
+      → Looked k contract account r place entry
+  looked {k = k} rows cut here own contract account place entry = record {
+    own = own ∙ position_here records rows k [] cut here;
+    contract_is = contract;
+    account_is = account;
+    place_is = place;
+    entry_is = entry;
+  }
 
   module _ {k contract account place : ℕ} {r : Position} {entry : List ℕ} (l : Looked k contract account r place entry)
       {fields : Bool} (f : fields ≡ fields_good contract account r) where

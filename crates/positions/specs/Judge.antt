@@ -1,12 +1,11 @@
 -- 02, K4: the call that judges a position log. "Refusals: 22 for any fault in the position log ..; then 17, 18, 9, 20
 -- as for a day."
-use Rattle.std.specs.Prelude.{ℕ, List, length}
+use Rattle.std.specs.Prelude.{ℕ, List, length, Result, Ok}
 use Rattle.wire.specs.Choice.{or_else}
-use Rattle.wire.specs.Outcomes.{Outcome}
+use Rattle.wire.specs.Outcomes.{refused, Outcome}
+use Rattle.wire.specs.declared.refusal.Refusal.{Refusal}
 use Rattle.daylog.specs.Header.{header_of}
 use Rattle.book.specs.Fits.{fits_fault}
-use Rattle.verdict.specs.declared.settle.Settled.{Settled}
-use Rattle.verdict.specs.declared.settle.Settled.TheVariants.{Found, Refused}
 use Rattle.verdict.specs.Verdict.{Verdict, found_count}
 use Rattle.verdict.specs.Settle.{short_fault, written}
 use Rattle.positions.specs.Books.{position_shape}
@@ -25,7 +24,7 @@ judge_fault log book room =
     (short_fault (log_verdict log) room))
 
 -- what `judge` gives: the number of findings, or the refusal; the book and the findings
-abbrev pub JudgeGives : (log book out : List ℕ) → Settled → (book' out' : List ℕ) → Type 0
+abbrev pub JudgeGives : (log book out : List ℕ) → Result ℕ Refusal → (book' out' : List ℕ) → Type 0
 JudgeGives log book out a book' out' =
-    Outcome (judge_fault log book (length out)) (Found (found_count (log_verdict log))) Refused
+    Outcome (judge_fault log book (length out)) (Ok (found_count (log_verdict log))) refused
     (written (log_verdict log) (header_of log).date book out) (book, out) a (book', out')

@@ -6,3 +6,4 @@ pub mod GoodPositions
 pub mod Offences
 pub mod Judge
 pub mod Way
+pub mod Judging

@@ -4,8 +4,9 @@ ghost use Rattle.positions.specs.Books.{position_shape, FreshGives, AskGives};
 
 use book::ask::{Asked, ask_as};
 use book::shape::Shape;
-use posting::fresh::{NewBook, fresh_as};
+use posting::fresh::fresh_as;
 use rules::kinds::Kinds;
+use wire::refusal::Refusal;
 
 // The bytes of a book, and of the most findings that a day can have: 2,048 ladders.
 pub const BOOK: usize = 4112;
@@ -23,14 +24,14 @@ pub fn position_shape() -> Shape
 }
 
 // Writes a fresh book of a rulebook over the whole buffer, or refuses and leaves it.
-pub fn fresh(book: &mut [u8], rulebook: u64) -> NewBook
+pub fn fresh(book: &mut [u8], rulebook: u64) -> Result<(), Refusal>
     ensures { FreshGives book.old rulebook result book.new }
 {
     fresh_as(position_shape(), book, rulebook)
 }
 
 // Asks a book for a total and its rung: kind 5 and no other.
-pub fn ask(book: &[u8], group: u64, kind: u64, family: u64) -> Asked
+pub fn ask(book: &[u8], group: u64, kind: u64, family: u64) -> Result<Asked, Refusal>
     ensures { AskGives book.now group kind family result }
 {
     ask_as(position_shape(), book, group, kind, family)

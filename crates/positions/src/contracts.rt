@@ -1,9 +1,9 @@
 // The contract table of a position log: entries of 16 bytes, by rising contract id.
-ghost use Rattle.std.specs.Prelude.{◌≡◌, ◌+◌, ◌*◌, ◌≤◌, length};
+ghost use Rattle.std.specs.Prelude.{◌≡◌};
 ghost use Rattle.positions.specs.LimitEntries.{limit_count, limited_at, limited_good, limits_good, limit_place};
 
 use rules::measure::Lots;
-use wire::read::{get8, get16, get32};
+use wire::read::{get16, get32};
 
 // A contract with its limits.
 #[derive(Clone, Copy)]
@@ -16,18 +16,16 @@ pub struct Limited {
     pub spare: u32,
 }
 
-pub(crate) fn limited_at(part: &[u8], k: usize) -> Limited
-    requires { 16 * k + 16 ≤ length part.now }
-    ensures { result ≡ limited_at part.now k }
+pub(crate) fn limit_of(entry: &[u8; 16]) -> Limited
+    ensures { result ≡ limited_at entry.now 0 }
 {
-    let at = 16 * k;
     Limited {
-        id: get16(part, at),
-        sort: get8(part, at + 2),
-        product: get8(part, at + 3),
-        today: Lots(get32(part, at + 4)),
-        previous: Lots(get32(part, at + 8)),
-        spare: get32(part, at + 12),
+        id: get16(entry, 0),
+        sort: entry[2],
+        product: entry[3],
+        today: Lots(get32(entry, 4)),
+        previous: Lots(get32(entry, 8)),
+        spare: get32(entry, 12),
     }
 }
 
@@ -44,14 +42,14 @@ fn limited_good(before: u16, e: Limited) -> bool
         & (e.spare == 0)
 }
 
-// Whether each entry is good, and its id above the one before.
+// Whether each entry is good, and its id above the one before: a loop, and no `all`, since it carries that id on.
 pub(crate) fn limits_good(part: &[u8]) -> bool
     ensures { result ≡ limits_good part.now }
 {
     let mut good = true;
     let mut before = 0;
-    for k in 0..part.len() / 16 {
-        let e = limited_at(part, k);
+    for entry in part.as_chunks::<16>().0 {
+        let e = limit_of(entry);
         good = good & limited_good(before, e);
         before = e.id;
     }
@@ -62,10 +60,9 @@ pub(crate) fn limits_good(part: &[u8]) -> bool
 pub(crate) fn limit_place(part: &[u8], id: u16) -> usize
     ensures { result ≡ limit_place (limited_at part.now) (limit_count part.now) id }
 {
-    for k in 0..part.len() / 16 {
-        if get16(part, 16 * k) == id {
-            return k;
-        }
-    }
-    part.len() / 16
+    let entries = part.as_chunks::<16>().0;
+    entries
+        .iter()
+        .position(|entry| get16(entry, 0) == id)
+        .unwrap_or(entries.len())
 }

@@ -5,6 +5,7 @@
 pub mod books;
 pub mod contracts;
 pub mod judge;
+mod judging;
 pub mod log;
 mod offences;
 pub mod records;

@@ -1,31 +1,32 @@
 // Which contract, if any, puts each group over its limit in each family.
-ghost use Rattle.std.specs.Prelude.{◌≡◌, ◌*◌, ◌≤◌, ◌<◌, length, get_or};
+ghost use Rattle.std.specs.Prelude.{◌≡◌, ◌*◌, ◌≤◌, ◌<◌, length};
 ghost use Rattle.wire.specs.Below.{first};
 ghost use Rattle.rules.specs.declared.kinds.Kinds.TheVariants.{One};
-ghost use Rattle.places.specs.Places.{ladders, cells};
+ghost use Rattle.places.specs.Places.{ladders};
 ghost use Rattle.positions.specs.LimitEntries.{limit_count, limited_at};
 ghost use Rattle.positions.specs.Offences.{over_either};
-ghost use Rattle.positions.specs.Way.{families_in, ids_in, over_at, place_at, places_in};
+ghost use Rattle.positions.specs.Way.{families_in, ids_in};
+ghost use Rattle.positions.specs.Judging.{over_by, place_by, places_by};
 
-use crate::contracts::limited_at;
-use places::ladders_in;
-use rules::kinds::Kinds;
+use crate::contracts::limit_of;
+use crate::judging::Judging;
 use rules::ladder::family_of;
 use rules::limit::{Held, is_over};
 use rules::measure::Lots;
 use rules::text::Text;
+use wire::fill::{fill_bytes, fill_pairs};
 use wire::read::{get16, get32};
-use wire::write::{put8, put16};
 
 // The family of each contract, at its place.
 pub(crate) fn fill_families(text: Text, contracts: &[u8], fams: &mut [u8])
     requires { length fams.old ≡ limit_count contracts.now }
     ensures { fams.new ≡ families_in text contracts.now }
 {
-    for k in 0..contracts.len() / 16 {
-        let e = limited_at(contracts, k);
-        put8(fams, k, family_of(text, e.sort, e.product));
-    }
+    let entries = contracts.as_chunks::<16>().0;
+    fill_bytes(fams, |k| {
+        let e = limit_of(&entries[k]);
+        family_of(text, e.sort, e.product)
+    });
 }
 
 // The contracts' ids, 16 bits each.
@@ -33,12 +34,12 @@ pub(crate) fn fill_ids(contracts: &[u8], ids: &mut [u8])
     requires { length ids.old ≡ 2 * limit_count contracts.now }
     ensures { ids.new ≡ ids_in contracts.now }
 {
-    for k in 0..contracts.len() / 16 {
-        put16(ids, 2 * k, get16(contracts, 16 * k));
-    }
+    let entries = contracts.as_chunks::<16>().0;
+    fill_pairs(ids, |k| get16(&entries[k], 0));
 }
 
-// Whether what is held on one side or on the other is over the limit of the contract at place k.
+// Whether what is held on one side or on the other is over the limit of the contract at place k. By its offset, and no
+// chunk: the answer is for each k, past the last whole entry too, where a chunk would need a branch of its own.
 fn is_over_either(text: Text, contracts: &[u8], k: u8, long: u64, short: u64) -> bool
     ensures { result ≡ over_either text (limited_at contracts.now k) long short }
 {
@@ -48,88 +49,53 @@ fn is_over_either(text: Text, contracts: &[u8], k: u8, long: u64, short: u64) ->
     is_over(text, Held(long), today, previous) | is_over(text, Held(short), today, previous)
 }
 
-// Whether the contract at place c is of the ladder's family, and its group over the limit there.
-fn is_over_at(
-    text: Text,
-    contracts: &[u8],
-    fams: &[u8],
-    longs: &[u64],
-    shorts: &[u64],
-    ladder: usize,
-    c: usize,
-) -> bool
-    requires { (c < length fams.now) × (length fams.now ≤ 32) × (cells One ≡ length longs.now) ×
-        (cells One ≡ length shorts.now) × (ladder < ladders One) }
-    ensures { result ≡ over_at text contracts.now fams.now longs.now
-        shorts.now ladder c }
-{
-    if fams[c] != (ladder % 16) as u8 {
-        return false;
-    }
-    let cell = ladder / 16 * 32 + c;
-    is_over_either(text, contracts, c as u8, longs[cell], shorts[cell])
-}
-
-// Goes up the contracts of the ladder's family, and stops at the first on which its group is over the limit.
-fn first_over(
-    text: Text,
-    contracts: &[u8],
-    fams: &[u8],
-    longs: &[u64],
-    shorts: &[u64],
-    ladder: usize,
-) -> usize
-    requires { (length fams.now ≤ 32) × (cells One ≡ length longs.now) × (cells One ≡ length shorts.now) ×
-        (ladder < ladders One) }
-    ensures { (result ≡ first (over_at text contracts.now fams.now longs.now
-        shorts.now ladder) (length fams.now)) × (result ≤ length fams.now) }
-{
-    for c in 0..fams.len() {
-        if is_over_at(text, contracts, fams, longs, shorts, ladder, c) {
-            return c;
+impl Judging<'_> {
+    // Whether the contract at place c is of the ladder's family, and its group over the limit there.
+    fn is_over_at(&self, ladder: usize, c: usize) -> bool
+        requires { (c < length self.now.fams.now) × (ladder < ladders One) }
+        ensures { result ≡ over_by self.now ladder c }
+    {
+        if self.fams[c] != (ladder % 16) as u8 {
+            return false;
         }
+        let cell = ladder / 16 * 32 + c;
+        let sums = self.sums;
+        is_over_either(
+            self.text,
+            self.contracts,
+            c as u8,
+            sums.longs[cell],
+            sums.shorts[cell],
+        )
     }
-    fams.len()
-}
 
-// The ladder's lowest place; a group of fewer than two accounts has none.
-fn place_at(
-    text: Text,
-    contracts: &[u8],
-    fams: &[u8],
-    sizes: &[u64],
-    longs: &[u64],
-    shorts: &[u64],
-    ladder: usize,
-) -> usize
-    requires { (length fams.now ≤ 32) × (length sizes.now ≡ 129) × (cells One ≡ length longs.now) ×
-        (cells One ≡ length shorts.now) × (ladder < ladders One) }
-    ensures { (result ≡ place_at text contracts.now fams.now longs.now
-        shorts.now sizes.now ladder) × (result ≤ length fams.now) }
-{
-    if sizes[ladder / 16 + 1] < 2 {
-        return fams.len();
+    // Goes up the contracts of the ladder's family, and stops at the first on which its group is over the limit.
+    fn first_over(&self, ladder: usize) -> usize
+        requires { ladder < ladders One }
+        ensures { (result ≡ first (over_by self.now ladder) (length self.now.fams.now)) ×
+            (result ≤ length self.now.fams.now) }
+    {
+        let n = self.fams.len();
+        (0..n).find(|c| self.is_over_at(ladder, *c)).unwrap_or(n)
     }
-    first_over(text, contracts, fams, longs, shorts, ladder)
-}
 
-// Each ladder's lowest place: every ladder of a group of two accounts or more is judged once.
-pub(crate) fn fill_places(
-    text: Text,
-    contracts: &[u8],
-    fams: &[u8],
-    sizes: &[u64],
-    longs: &[u64],
-    shorts: &[u64],
-    places: &mut [u8],
-)
-    requires { (length fams.now ≤ 32) × (length sizes.now ≡ 129) × (cells One ≡ length longs.now) ×
-        (cells One ≡ length shorts.now) × (length places.old ≡ ladders One) }
-    ensures { places.new ≡ places_in text contracts.now fams.now
-        longs.now shorts.now sizes.now }
-{
-    for l in 0..ladders_in(Kinds::One) {
-        let place = place_at(text, contracts, fams, sizes, longs, shorts, l);
-        put8(places, l, place as u8);
+    // The ladder's lowest place; a group of fewer than two accounts has none.
+    fn place_at(&self, ladder: usize) -> usize
+        requires { ladder < ladders One }
+        ensures { (result ≡ place_by self.now ladder) × (result ≤ length self.now.fams.now) }
+    {
+        let many = 2 <= self.sizes[ladder / 16 + 1];
+        if !many {
+            return self.fams.len();
+        }
+        self.first_over(ladder)
+    }
+
+    // Each ladder's lowest place: every ladder of a group of two accounts or more is judged once.
+    pub(crate) fn fill_places(&self, places: &mut [u8])
+        requires { length places.old ≡ ladders One }
+        ensures { places.new ≡ places_by self.now }
+    {
+        fill_bytes(places, |l| self.place_at(l) as u8);
     }
 }

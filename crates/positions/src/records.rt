@@ -1,5 +1,5 @@
 // The records of a position log: 16 bytes each, by rising contract and account.
-ghost use Rattle.std.specs.Prelude.{◌≡◌, ◌+◌, ◌*◌, ◌≤◌, length};
+ghost use Rattle.std.specs.Prelude.{◌≡◌};
 ghost use Rattle.positions.specs.Records.{position_at, fields_good};
 
 use rules::measure::Lots;
@@ -15,25 +15,16 @@ pub struct Position {
     pub short: Lots,
 }
 
-// A record in a part of 16 bytes: that its bytes are there is then known, and not tested.
-fn position_in(part: &[u8]) -> Position
-    ensures { result ≡ position_at part.now 0 }
+pub(crate) fn position_of(row: &[u8; 16]) -> Position
+    ensures { result ≡ position_at row.now 0 }
 {
     Position {
-        contract: get16(part, 0),
-        spare: get16(part, 2),
-        account: get32(part, 4),
-        long: Lots(get32(part, 8)),
-        short: Lots(get32(part, 12)),
+        contract: get16(row, 0),
+        spare: get16(row, 2),
+        account: get32(row, 4),
+        long: Lots(get32(row, 8)),
+        short: Lots(get32(row, 12)),
     }
-}
-
-pub(crate) fn position_at(records: &[u8], k: usize) -> Position
-    requires { 16 * k + 16 ≤ length records.now }
-    ensures { result ≡ position_at records.now k }
-{
-    let at = 16 * k;
-    position_in(&records[at..at + 16])
 }
 
 // The record's own fields, after a record of this contract and account.

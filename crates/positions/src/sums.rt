@@ -8,11 +8,18 @@ ghost use Rattle.positions.specs.Records.{record_count, records_good};
 ghost use Rattle.positions.specs.Way.{added_in, sizes_in, long_to, short_to};
 
 use crate::contracts::limit_place;
-use crate::records::{fields_good, position_at};
+use crate::records::{fields_good, position_of};
 use places::cell_of;
 use rules::kinds::Kinds;
 use tables::accounts::find_account;
 use wire::read::get8;
+
+// A sum for each cell, long and short.
+#[derive(Drop)]
+pub(crate) struct Sums {
+    pub(crate) longs: [u64; 4096],
+    pub(crate) shorts: [u64; 4096],
+}
 
 // Adds an amount in cell i.
 fn add(c: &mut [u64], i: usize, amount: u64)
@@ -29,9 +36,8 @@ pub(crate) fn add_sizes(accounts: &[u8], sizes: &mut [u64])
     requires { (length accounts.now ≤ 4096) × (sizes.old ≡ replicate 129 0) }
     ensures { sizes.new ≡ sizes_in accounts.now }
 {
-    for k in 0..accounts.len() / 8 {
-        let group = get8(accounts, 8 * k + 4);
-        add(sizes, group as usize, 1);
+    for entry in accounts.as_chunks::<8>().0 {
+        add(sizes, entry[4] as usize, 1);
     }
 }
 
@@ -51,23 +57,21 @@ pub(crate) fn add_records(
     contracts: &[u8],
     accounts: &[u8],
     records: &[u8],
-    longs: &mut [u64],
-    shorts: &mut [u64],
+    sums: &mut Sums,
 ) -> bool
     requires { (length contracts.now ≤ 512) × (accounts_good accounts.now ≡ true) ×
-        (length records.now ≤ 262144) × (longs.old ≡ replicate (cells One) 0) ×
-        (shorts.old ≡ replicate (cells One) 0) }
+        (length records.now ≤ 262144) × (sums.old.longs ≡ replicate (cells One) 0) ×
+        (sums.old.shorts ≡ replicate (cells One) 0) }
     ensures value { result ≡ records_good contracts.now accounts.now records.now }
-    ensures sums_after { result ≡ true → (longs.new ≡ long_to contracts.now accounts.now
-        records.now (record_count records.now)) × (shorts.new ≡ short_to
-        contracts.now accounts.now records.now (record_count
-        records.now)) }
+    ensures sums_after { result ≡ true →
+        (sums.new.longs ≡ long_to contracts.now accounts.now records.now (record_count records.now)) ×
+        (sums.new.shorts ≡ short_to contracts.now accounts.now records.now (record_count records.now)) }
 {
     let mut contract = 0;
     let mut account = 0;
     let mut place = limit_place(contracts, 0);
-    for k in 0..records.len() / 16 {
-        let r = position_at(records, k);
+    for row in records.as_chunks::<16>().0 {
+        let r = position_of(row);
         let long = r.long;
         let short = r.short;
         place = next_place(contracts, contract, place, r.contract);
@@ -79,8 +83,8 @@ pub(crate) fn add_records(
             return false;
         }
         let cell = cell_of(Kinds::One, get8(entry, 4), 5, place as u16);
-        add(longs, cell, long.0 as u64);
-        add(shorts, cell, short.0 as u64);
+        add(&mut sums.longs, cell, long.0 as u64);
+        add(&mut sums.shorts, cell, short.0 as u64);
         contract = r.contract;
         account = r.account;
     }

@@ -2,12 +2,10 @@
 // bench/run times it beside plain Rust; bench/positions.rs says how the log is made and what is printed.
 #![tactic(auto)]
 
-use itoa::Buffer;
 use positions::books::{BOOK, FINDINGS, fresh};
 use positions::judge::judge;
 use positions::log::MOST_LOG;
-use std::io::Print;
-use verdict::settle::Settled;
+use wire::refusal::Refusal;
 use wire::write::{put8, put16, put32};
 use words::asked::{count_words, word_at};
 use words::number::number_in;
@@ -16,9 +14,9 @@ const DATE: u32 = 20240305;
 
 // "AXP", rulebook 2, version 1, the date, 32 contracts, 512 accounts, 16,384 records.
 fn head(log: &mut [u8]) {
-    put8(log, 0, 0x41);
-    put8(log, 1, 0x58);
-    put8(log, 2, 0x50);
+    put8(log, 0, b'A');
+    put8(log, 1, b'X');
+    put8(log, 2, b'P');
     put8(log, 3, 2);
     put16(log, 4, 1);
     put32(log, 6, DATE);
@@ -27,7 +25,8 @@ fn head(log: &mut [u8]) {
     put16(log, 14, 16384);
 }
 
-// Contracts 1 to 32: futures, two to a product.
+// Contracts 1 to 32: futures, two to a product. This and `head` are no twins of fullsize's: another log, and entries of
+// another length with other fields.
 fn contracts(log: &mut [u8]) {
     for k in 0..32 {
         let at = 16 + 16 * k;
@@ -39,7 +38,8 @@ fn contracts(log: &mut [u8]) {
     }
 }
 
-// Accounts 7, 14, .. in groups of four.
+// Accounts 7, 14, .. in groups of four. These lines, `next` and `step` stand in fullsize too: a program cannot take
+// them from another, and in a library each would need a contract and a definition that say its few lines again.
 fn accounts(log: &mut [u8]) {
     for j in 0..512 {
         let at = 528 + 8 * j;
@@ -50,7 +50,7 @@ fn accounts(log: &mut [u8]) {
 }
 
 fn next(seed: u32) -> u32 {
-    ((1664525 * (seed as u64) + 1013904223) % 4294967296) as u32
+    seed.wrapping_mul(1664525).wrapping_add(1013904223)
 }
 
 fn lots(seed: u32) -> u32 {
@@ -74,27 +74,20 @@ fn records(log: &mut [u8]) {
 
 // A fresh book each time, as judging writes it. The date is written anew too: so no check of the log can be taken out
 // of the loop and made once for all.
-fn judge_again(log: &mut [u8], findings: &mut [u8]) -> Settled {
+fn judge_again(log: &mut [u8], findings: &mut [u8]) -> Result<usize, Refusal> {
     let mut book = [0u8; BOOK];
-    fresh(&mut book, 2);
+    let _ = fresh(&mut book, 2);
     put32(log, 6, DATE);
     judge(log, &mut book, findings)
 }
 
 // The last judging's answer, or the first refusal.
-fn judge_all(log: &mut [u8], findings: &mut [u8], times: u32) -> Settled {
+fn judge_all(log: &mut [u8], findings: &mut [u8], times: u32) -> Result<usize, Refusal> {
     let mut found = 0;
     for _ in 0..times {
-        match judge_again(log, findings) {
-            Settled::Found(count) => {
-                found = count;
-            }
-            Settled::Refused(number) => {
-                return Settled::Refused(number);
-            }
-        }
+        found = judge_again(log, findings)?;
     }
-    Settled::Found(found)
+    Ok(found)
 }
 
 fn step(h: u64, x: u8) -> u64 {
@@ -103,35 +96,18 @@ fn step(h: u64, x: u8) -> u64 {
 
 // Of the bytes of the findings that were found.
 fn checksum(findings: &[u8], found: usize) -> u64 {
-    let mut h: u64 = 0;
-    for i in 0..findings.len() {
-        if i / 8 < found {
-            h = step(h, findings[i]);
-        }
-    }
-    h
-}
-
-fn write(rt: &HostRuntime, text: &[u8]) {
-    let _ = Print::write_all(rt, text);
-}
-
-fn say(rt: &HostRuntime, n: u64, end: &[u8]) {
-    let mut digits = Buffer::new();
-    write(rt, digits.format(n).as_bytes());
-    write(rt, end);
+    let bytes = found.saturating_mul(8);
+    findings.iter().take(bytes).fold(0, |h, x| step(h, *x))
 }
 
 fn run(rt: &HostRuntime, log: &mut [u8], times: u32) {
     let mut findings = [0u8; FINDINGS];
     match judge_all(log, &mut findings, times) {
-        Settled::Found(found) => {
-            say(rt, found as u64, b" ");
-            say(rt, checksum(&findings, found), b"\n");
+        Ok(found) => {
+            let _ = println!(rt; "{found} {}", checksum(&findings, found));
         }
-        Settled::Refused(number) => {
-            write(rt, b"refused ");
-            say(rt, number as u64, b"\n");
+        Err(refusal) => {
+            let _ = println!(rt; "{refusal}");
         }
     }
 }
@@ -142,8 +118,7 @@ fn times_asked(rt: &HostRuntime) -> u32 {
         return 3;
     }
     let mut word = [0u8; 6];
-    let len = word_at(rt, 1, &mut word);
-    number_in(&word[0..len])
+    number_in(word_at(rt, 1, &mut word))
 }
 
 fn main(rt: HostRuntime) {

@@ -2,14 +2,14 @@
 use mathlib.Core.Path.{◌≡◌, refl, sym, ◌∙◌}
 use mathlib.Core.Bool.{true, not}
 use mathlib.Core.List.{List}
-use Prim.Native.Nat.{ℕ, ◌<◌, zero-le}
+use Prim.Native.Nat.{ℕ, ◌<◌, ◌≤◌, zero-le}
 use native.Mathlib.Omega.{arith}
 use borrow.Author.Tests.{eqb-true, not-false}
 use lib.Dec.{eqb}
 use lib.ListN.{length}
 use Rattle.wire.specs.Bytes.{bytes}
 use Rattle.wire.specs.Buffers.{put, put_in, rows}
-use Rattle.wire.proofs.ChoiceLaws.{pick_zero}
+use Rattle.wire.proofs.ChoiceLaws.{pick_zero, pick_le}
 use Rattle.wire.proofs.BufferLaws.{put_in_lem, put_whole, then}
 use Rattle.rules.specs.Codes.{is_rulebook}
 use Rattle.book.specs.declared.shape.Shape.{Shape}
@@ -31,6 +31,11 @@ made shape len rulebook e =
     let one = pick_zero (not (is_rulebook rulebook)) 4 _ (omega arith) e in
     let two = pick_zero (not (eqb len (book_size shape.kinds))) 17 0 (omega arith) one.1 in
     record { known = not-false _ one.0; long = eqb-true len (book_size shape.kinds) (not-false _ two.0) }
+
+-- every number is a refusal's
+pub fresh_most : (shape : Shape) (len rulebook : ℕ) → fresh_fault_as shape len rulebook ≤ 22
+unfolding fresh_fault_as
+fresh_most shape len rulebook = pick_le _ 4 _ 22 (omega arith) (pick_le _ 17 0 22 (omega arith) (omega arith))
 
 -- the head and the zero totals, one after the other, are the whole book
 pub fresh_written : (shape : Shape) (b r₁ r₂ : List ℕ) (rulebook : ℕ) → length b ≡ book_size shape.kinds

@@ -3,8 +3,9 @@
 use mathlib.Core.Path.{◌≡◌, sym, ◌∙◌}
 use mathlib.Core.Bool.{Bool}
 use Prim.Native.Nat.{ℕ}
+use Rattle.std.specs.Prelude.{Result, ⊤}
+use Rattle.wire.specs.declared.refusal.Refusal.{Refusal}
 use Rattle.wire.proofs.AnswerLaws.{one_outcome}
-use Rattle.posting.specs.declared.fresh.NewBook.{NewBook}
 use Rattle.posting.proofs.head.put_head.Reads as put_head
 use Rattle.posting.proofs.fresh.fresh_as.Reads as fresh_as
 use Rattle.posting.proofs.raise.is_later_year.Reads as is_later_year
@@ -16,7 +17,7 @@ pub put_head_unique : (κs : _) (a : _) (r₁ r₂ : _) (s₁ s₂ : _)
     → put_head.Post κs a r₁ s₁ → put_head.Post κs a r₂ s₂ → s₁.0.now ≡ s₂.0.now
 put_head_unique κs a r₁ r₂ s₁ s₂ p q = p ∙ sym q
 
-pub fresh_as_unique : (κs : _) (a : _) (r₁ r₂ : NewBook) (s₁ s₂ : _)
+pub fresh_as_unique : (κs : _) (a : _) (r₁ r₂ : Result ⊤ Refusal) (s₁ s₂ : _)
     → fresh_as.Post κs a r₁ s₁ → fresh_as.Post κs a r₂ s₂ → (r₁ ≡ r₂) × (s₁.1.0.now ≡ s₂.1.0.now)
 fresh_as_unique κs a r₁ r₂ s₁ s₂ p q = one_outcome p q
 

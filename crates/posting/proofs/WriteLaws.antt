@@ -1,12 +1,16 @@
 -- What the writes of a head and of a group's part leave in the buffer. Assumes nothing.
 use mathlib.Core.Path.{◌≡◌, refl, sym, ap, ap₂, ◌∙◌}
 use mathlib.Core.Bool.{Bool}
-use mathlib.Core.List.{List, [], ◌∷◌}
-use Prim.Native.Nat.{ℕ, zero, suc, ◌+◌, ◌*◌, ◌<◌, ◌≤◌}
+use mathlib.Core.List.{List, [], ◌∷◌, ◌++◌}
+use Prim.Native.Nat.{ℕ, zero, suc, ◌+◌, ◌-◌, ◌*◌, ◌<◌, ◌≤◌}
 use native.Mathlib.Nat.{le_of_suc-le-suc, not-suc-le-zero}
 use native.Mathlib.Omega.{arith}
 use lib.Dec.{ltb}
-use lib.ListN.{length, get_or, set, get_or-eq_default}
+use borrow.Rule.Slice.PartMut.{put_mid}
+use lib.ListN.{length, get_or, set, take, drop, replicate, get_or-eq_default, length-replicate}
+use lib.ListN.{length-take, length-drop}
+use lib.Seq.{drop-drop}
+use Rattle.std.proofs.lemmas.List.{replicate-append-replicate}
 use Rattle.wire.specs.Bytes.{le, bytes}
 use Rattle.wire.specs.Buffers.{put, put_in, rows}
 use Rattle.wire.proofs.ByteLaws.{bytes_length}
@@ -39,6 +43,34 @@ module _ (s : List ℕ) (letter rulebook date : ℕ) where
 
   pub head_too_long : length s < 16 → s ≡ put_in s 0 (head_of letter rulebook date)
   head_too_long h = past_end s 0 (head_of letter rulebook date) (rw head_length h)
+
+-- ---- the totals of a fresh book
+-- a part that comes back is put where it was lent from
+pub mid_put : (s p : List ℕ) (a k : ℕ) → length p ≡ k → put_mid a k s p ≡ put s a p
+unfolding put
+mid_put s p a k e = ap (λ (l : List ℕ). take a s ++ (p ++ l)) (drop-drop k a s ∙ ap (λ (n : ℕ). drop (a + n) s)
+    (sym e))
+
+zero_rows : (n : ℕ) → rows (λ _. bytes 2 0) n ≡ replicate (2 * n) 0
+unfolding rows bytes
+zero_rows zero = refl
+zero_rows (suc n) =
+    let twice : 2 * n + 2 ≡ 2 * suc n = omega arith in
+    ap (λ (l : List ℕ). l ++ (0 ∷ 0 ∷ [])) (zero_rows n) ∙ replicate-append-replicate (2 * n) 2 0
+    ∙ ap (λ (k : ℕ). replicate k 0) twice
+
+pub totals_zeroed : (s p : List ℕ) (n : ℕ) → length s ≡ 16 + 2 * n
+    → p ≡ replicate (length (take (length s - 16) (drop 16 s))) 0
+    → put_mid 16 (length s - 16) s p ≡ put s 16 (rows (λ _. bytes 2 0) n)
+totals_zeroed s p n long e =
+    mid_put s p 16 (length s - 16) (ap length zeros ∙ length-replicate (2 * n) 0 ∙ omega arith)
+    ∙ ap (put s 16) (zeros ∙ sym (zero_rows n))
+  where
+    rest : length (take (length s - 16) (drop 16 s)) ≡ 2 * n
+    rest = omega (arith, length-take (length s - 16) (drop 16 s), length-drop 16 s)
+
+    zeros : p ≡ replicate (2 * n) 0
+    zeros = e ∙ ap (λ (m : ℕ). replicate m 0) rest
 
 -- ---- the place that stands for a ladder, and past the end
 pub place_there : (places : List ℕ) (j : ℕ) → j < length places → get_or places j 0 ≡ place_in places j

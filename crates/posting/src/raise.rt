@@ -19,11 +19,11 @@ pub fn next_total(later: bool, hit: bool, total: u16) -> u16
     ensures { result ≡ next_total later hit total }
 {
     let start = if later { 0 } else { total };
-    let one = if hit { 1 } else { 0 };
-    (((start as u32) + one) % 65536) as u16
+    (((start as u32) + u32::from(hit)) % 65536) as u16
 }
 
-// The place that stands for a ladder; past the end 255, which is no contract's.
+// The place that stands for a ladder; past the end 255, which is no contract's: no Option, since `place_in` of
+// specs/Raise is the byte that is kept.
 pub fn place_in(places: &[u8], ladder: usize) -> usize
     ensures { result ≡ place_in places.now ladder }
 {
@@ -35,7 +35,8 @@ pub fn place_in(places: &[u8], ladder: usize) -> usize
 }
 
 // Raises the totals in a group's part of the book. `places` has, for each ladder, the place of the lowest contract
-// that reached the number; those of the group begin at `from`. A place from `contracts` on is none.
+// that reached the number; those of the group begin at `from`. A place from `contracts` on is none. By the place and
+// not by `chunks_exact_mut`, which tells no more of the part than its length: tried in `fill_pairs` of wire.
 pub fn raise_group(part: &mut [u8], later: bool, places: &[u8], from: u16, contracts: usize)
     ensures { part.new ≡ raised_part part.old later places.now from contracts }
 {

@@ -1,9 +1,6 @@
 // x: the exemption test asked by itself, and the line it prints.
-ghost use Rattle.std.specs.Prelude.{◌≡◌, length};
-ghost use Rattle.replay.specs.Within.{Within};
-
 use crate::line::print_clause;
-use crate::setup::{Setup, Step, changed};
+use crate::stop::Stop;
 use exemptions::clause::clause_of;
 use rules::text::Text;
 use wire::read::get8;
@@ -20,11 +17,7 @@ fn clause_in(one: &[u8]) -> u8 {
     clause_of(text, get8(one, 3), get8(one, 4), get8(one, 5), get8(one, 6))
 }
 
-pub(crate) fn ask(rt: &HostRuntime, one: &[u8], s: Setup) -> Step
-    requires { Within s }
-    ensures { Within result.setup × (result.used ≡ length one.now) }
-{
-    let mut step = changed(one, s);
-    step.printed = print_clause(rt, clause_in(one));
-    step
+pub(crate) fn ask(rt: &HostRuntime, one: &[u8]) -> Result<(), Stop> {
+    print_clause(rt, clause_in(one))?;
+    Ok(())
 }

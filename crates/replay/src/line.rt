@@ -3,12 +3,13 @@
 // is no call, has a line of its own.
 ghost use Rattle.std.specs.Prelude.{◌<◌};
 
+use book::ask::Asked;
 use counts::weigh::Reasons;
-use daylog::header::Header;
-use desk::state::State;
+use desk::state::{Day, State};
 use files::output::put;
 use itoa::Buffer;
 use std::io;
+use wire::refusal::Refusal;
 
 // What an accepted call tells besides the state.
 #[derive(Clone, Copy)]
@@ -16,8 +17,7 @@ pub(crate) enum Told {
     Nothing,
     Reasons(Reasons),
     Findings(usize),
-    // The total and its rung.
-    Total(u16, u8),
+    Total(Asked),
 }
 
 pub(crate) fn bad(rt: &HostRuntime) -> io::Result<()> {
@@ -30,45 +30,55 @@ fn say(rt: &HostRuntime, n: u64) -> io::Result<()> {
     put(rt, digits.format(n).as_bytes())
 }
 
+fn say_all(rt: &HostRuntime, numbers: &[u64]) -> io::Result<()> {
+    for n in numbers {
+        say(rt, *n)?;
+    }
+    Ok(())
+}
+
 // The exemption test's line.
 pub(crate) fn print_clause(rt: &HostRuntime, clause: u8) -> io::Result<()> {
     put(rt, b"x")?;
-    say(rt, clause as u64)?;
+    say(rt, u64::from(clause))?;
     put(rt, b"\n")
 }
 
-fn say_header(rt: &HostRuntime, head: Header) -> io::Result<()> {
-    say(rt, head.rulebook as u64)?;
-    say(rt, head.version as u64)?;
-    say(rt, head.date as u64)?;
-    say(rt, head.contracts as u64)?;
-    say(rt, head.accounts as u64)?;
-    say(rt, head.spare as u64)
+fn say_day(rt: &HostRuntime, day: Day) -> io::Result<()> {
+    let head = day.head;
+    let numbers = [
+        u64::from(head.rulebook),
+        u64::from(head.version),
+        u64::from(head.date),
+        u64::from(head.contracts),
+        u64::from(head.accounts),
+        u64::from(head.spare),
+        u64::from(day.taken),
+    ];
+    put(rt, b" open")?;
+    say_all(rt, &numbers)
 }
 
 fn say_state(rt: &HostRuntime, state: State) -> io::Result<()> {
     match state {
         State::Closed => put(rt, b" closed"),
-        State::Open(day) => {
-            put(rt, b" open")?;
-            say_header(rt, day.head)?;
-            say(rt, day.taken as u64)
-        }
+        State::Open(day) => say_day(rt, day),
     }
 }
 
-// One kind's clauses, of the first order and of the second.
-fn say_both(rt: &HostRuntime, first: u8, second: u8) -> io::Result<()> {
-    say(rt, first as u64)?;
-    say(rt, second as u64)
-}
-
+// Each kind's clauses, of the first order and of the second.
 fn say_reasons(rt: &HostRuntime, why: Reasons) -> io::Result<()> {
     let first = why.first;
     let second = why.second;
-    say_both(rt, first.own, second.own)?;
-    say_both(rt, first.frequent, second.frequent)?;
-    say_both(rt, first.over, second.over)
+    let clauses = [
+        first.own,
+        second.own,
+        first.frequent,
+        second.frequent,
+        first.over,
+        second.over,
+    ];
+    say_all(rt, &clauses.map(u64::from))
 }
 
 fn say_told(rt: &HostRuntime, told: Told) -> io::Result<()> {
@@ -76,19 +86,17 @@ fn say_told(rt: &HostRuntime, told: Told) -> io::Result<()> {
         Told::Nothing => Ok(()),
         Told::Reasons(why) => say_reasons(rt, why),
         Told::Findings(n) => say(rt, n as u64),
-        Told::Total(total, rung) => {
-            say(rt, total as u64)?;
-            say(rt, rung as u64)
-        }
+        Told::Total(asked) => say_all(rt, &[u64::from(asked.total), u64::from(asked.rung)]),
     }
 }
 
-// A checksum with one byte more.
+// A checksum with one byte more. `step` in fullsize and positions_full takes any number before it; a program cannot
+// take it from another.
 fn mix(h: u64, x: u8) -> u64
     requires { h < 4294967291 }
     ensures { result < 4294967291 }
 {
-    (h * 257 + (x as u64) + 1) % 4294967291
+    (h * 257 + u64::from(x) + 1) % 4294967291
 }
 
 // The same for a number's four bytes, the low one first.
@@ -96,33 +104,24 @@ fn mix_number(h: u64, v: u32) -> u64
     requires { h < 4294967291 }
     ensures { result < 4294967291 }
 {
-    let low = mix(mix(h, (v % 256) as u8), (v / 256 % 256) as u8);
-    mix(
-        mix(low, (v / 65536 % 256) as u8),
-        (v / 16777216 % 256) as u8,
-    )
+    let [a, b, c, d] = v.to_le_bytes();
+    mix(mix(mix(mix(h, a), b), c), d)
 }
 
-fn of_bytes(s: &[u8]) -> u64 {
+pub(crate) fn of_bytes(bytes: &[u8]) -> u64 {
     let mut h = 0;
-    for i in 0..s.len() {
-        h = mix(h, s[i]);
+    for x in bytes {
+        h = mix(h, *x);
     }
     h
 }
 
-fn of_numbers(c: &[u32]) -> u64 {
+pub(crate) fn of_numbers(numbers: &[u32]) -> u64 {
     let mut h = 0;
-    for i in 0..c.len() {
-        h = mix_number(h, c[i]);
+    for v in numbers {
+        h = mix_number(h, *v);
     }
     h
-}
-
-fn say_sums(rt: &HostRuntime, book: &[u8], counts: &[u32], findings: &[u8]) -> io::Result<()> {
-    say(rt, of_bytes(book))?;
-    say(rt, of_numbers(counts))?;
-    say(rt, of_bytes(findings))
 }
 
 // The step's letter.
@@ -133,53 +132,28 @@ fn put_letter(rt: &HostRuntime, one: &[u8]) -> io::Result<()> {
     put(rt, &one[0..1])
 }
 
-// The whole line, or why it did not go out.
+// 0 for an accepted call.
+fn number_of(made: Result<Told, Refusal>) -> u32 {
+    match made {
+        Ok(_) => 0,
+        Err(refusal) => refusal.number(),
+    }
+}
+
+// The whole line of a call, or why it did not go out.
 pub(crate) fn print(
     rt: &HostRuntime,
     one: &[u8],
-    fault: u32,
-    state: State,
-    book: &[u8],
-    counts: &[u32],
-    findings: &[u8],
-    told: Told,
+    made: Result<Told, Refusal>,
+    state: Option<State>,
+    sums: &[u64],
 ) -> io::Result<()> {
     put_letter(rt, one)?;
-    say(rt, fault as u64)?;
-    say_state(rt, state)?;
-    say_sums(rt, book, counts, findings)?;
-    say_told(rt, told)?;
-    put(rt, b"\n")
-}
-
-// The line of a call on the book of positions alone.
-pub(crate) fn print_on_book(
-    rt: &HostRuntime,
-    one: &[u8],
-    fault: u32,
-    book: &[u8],
-    told: Told,
-) -> io::Result<()> {
-    put_letter(rt, one)?;
-    say(rt, fault as u64)?;
-    say(rt, of_bytes(book))?;
-    say_told(rt, told)?;
-    put(rt, b"\n")
-}
-
-// The same with the findings buffer.
-pub(crate) fn print_judged(
-    rt: &HostRuntime,
-    one: &[u8],
-    fault: u32,
-    book: &[u8],
-    findings: &[u8],
-    told: Told,
-) -> io::Result<()> {
-    put_letter(rt, one)?;
-    say(rt, fault as u64)?;
-    say(rt, of_bytes(book))?;
-    say(rt, of_bytes(findings))?;
-    say_told(rt, told)?;
+    say(rt, u64::from(number_of(made)))?;
+    if let Some(state) = state {
+        say_state(rt, state)?;
+    }
+    say_all(rt, sums)?;
+    say_told(rt, made.unwrap_or(Told::Nothing))?;
     put(rt, b"\n")
 }

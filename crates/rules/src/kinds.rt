@@ -1,9 +1,10 @@
-// How many kinds of offence a rulebook has, and by which numbers they go.
+// How many kinds of offence a rulebook has, and by which numbers they go: numbers, as `enough_of`, `sanction_of` and
+// `clause_of` promise an answer for every number.
 ghost use Rattle.std.specs.Prelude.{◌≡◌};
 ghost use Rattle.rules.specs.Kinds.{kinds_of, kinds_in, first_kind};
 
 // The kinds that one book keeps: one of them by itself, 5; or 1 to 3; or 1 to 4.
-#[derive(Clone, Copy)]
+#[derive(Debug, Clone, Copy, PartialEq, Eq, Hash)]
 pub enum Kinds {
     One,
     Three,
@@ -14,6 +15,7 @@ pub enum Kinds {
 pub const MOST_KINDS: usize = 3;
 
 // The kinds of a rulebook. It comes in 64 bits, as it is passed in.
+#[tactic(auto, unfolding(crate::specs::Kinds::kinds_of))]
 pub fn kinds_of(rulebook: u64) -> Kinds
     ensures { result ≡ kinds_of rulebook }
 {
@@ -21,6 +23,7 @@ pub fn kinds_of(rulebook: u64) -> Kinds
 }
 
 // How many they are.
+#[tactic(auto, unfolding(crate::specs::Kinds::kinds_in))]
 pub fn kinds_in(kinds: Kinds) -> usize
     ensures { result ≡ kinds_in kinds }
 {
@@ -32,6 +35,7 @@ pub fn kinds_in(kinds: Kinds) -> usize
 }
 
 // The number of the first.
+#[tactic(auto, unfolding(crate::specs::Kinds::first_kind))]
 pub fn first_kind(kinds: Kinds) -> u8
     ensures { result ≡ first_kind kinds }
 {

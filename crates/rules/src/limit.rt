@@ -6,7 +6,7 @@ use crate::measure::Lots;
 use crate::text::Text;
 
 // Lots that are held on one side of a contract, in 64 bits: no log has records enough to wrap them.
-#[derive(Clone, Copy)]
+#[derive(Debug, Clone, Copy, PartialEq, Eq, Hash)]
 pub struct Held(pub u64);
 
 // Whether they are over the limit: in rulebook 1 the previous day's limit spares what it allowed.

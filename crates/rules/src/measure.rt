@@ -1,14 +1,13 @@
 // The two measures: trades and cancels are counted in times, order amounts in lots. One is never taken for the other.
 ghost use Rattle.std.specs.Prelude.{◌≡◌};
-ghost use Rattle.rules.specs.Choices.{by_three};
 ghost use Rattle.rules.specs.Measure.{large, enough, reached};
 
 use crate::text::Text;
 
-#[derive(Clone, Copy)]
+#[derive(Debug, Clone, Copy, PartialEq, Eq, Hash)]
 pub struct Lots(pub u32);
 
-#[derive(Clone, Copy)]
+#[derive(Debug, Clone, Copy, PartialEq, Eq, Hash)]
 pub struct Times(pub u32);
 
 // Whether a cancel of so many lots is large on a contract with this largest order.
@@ -20,32 +19,19 @@ pub fn is_large(text: Text, lots: Lots, largest: Lots) -> bool
     ((text.rulebook == 1) & (four < five)) | ((text.rulebook == 2) & (four <= five))
 }
 
-fn by_kind(kind: u8, own: u32, frequent: u32, big: u32) -> u32
-    ensures { result ≡ by_three kind own frequent big 0 }
-{
-    if kind == 1 {
-        return own;
-    }
-    if kind == 2 {
-        return frequent;
-    }
-    if kind == 3 {
-        return big;
-    }
-    0
-}
-
-// The times on one contract in one day that are an offence of a kind; 0, for none, of what the rulebook does not have.
+// The times on one contract in one day that are an offence of a kind; 0, for none, of what the rulebook does not have:
+// no Option, since `enough` of specs/Measure is a number, and `reached` goes by it.
+#[tactic(auto, using(wire::proofs::ChoiceLaws::chain), unfolding(crate::specs::Measure::enough, crate::specs::Choices::by_three))]
 pub fn enough_of(text: Text, kind: u8) -> Times
     ensures { result ≡ enough text kind }
 {
-    if text.rulebook == 1 {
-        return Times(by_kind(kind, 5, 500, 400));
+    match (text.rulebook, kind) {
+        (1 | 2, 1) => Times(5),
+        (1 | 2, 2) => Times(500),
+        (1, 3) => Times(400),
+        (2, 3) => Times(100),
+        _ => Times(0),
     }
-    if text.rulebook == 2 {
-        return Times(by_kind(kind, 5, 500, 100));
-    }
-    Times(0)
 }
 
 // Whether so many times reach the number that is enough. Where there is none, nothing does.

@@ -2,7 +2,8 @@
 ghost use Rattle.std.specs.Prelude.{◌≡◌};
 ghost use Rattle.rules.specs.Codes.{is_rulebook};
 
-#[derive(Clone, Copy)]
+// The rulebook is a number: a header may name any, and the rules promise an answer for each.
+#[derive(Debug, Clone, Copy, PartialEq, Eq, Hash)]
 pub struct Text {
     pub rulebook: u8,
 }

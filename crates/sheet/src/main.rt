@@ -6,7 +6,6 @@ mod page;
 mod request;
 
 use files::said::{fail, say};
-use request::Request;
 
 fn tell_usage(rt: &HostRuntime) {
     say(
@@ -17,15 +16,11 @@ fn tell_usage(rt: &HostRuntime) {
 
 fn main(rt: HostRuntime) {
     match request::by_words(&rt) {
-        Request::Unclear => tell_usage(&rt),
-        Request::For(codes) => {
-            if !page::has_entry(codes) {
-                tell_usage(&rt);
-                return;
-            }
-            if let Err(why) = page::print(&rt, codes) {
+        Some(asked) if page::has_entry(asked) => {
+            if let Err(why) = page::print(&rt, asked) {
                 fail(&rt, b"sheet: standard output cannot be written", &why);
             }
         }
+        _ => tell_usage(&rt),
     }
 }

@@ -1,42 +1,40 @@
 // The page: a heading for each rulebook with its clause, one for each contract type and kind, and a line an entry.
-ghost use Rattle.std.specs.Prelude.{◌≤◌, ◌<◌, length};
+ghost use Rattle.std.specs.Prelude.{◌<◌};
 
+use crate::request::Asked;
 use exemptions::lookup::{Codes, codes_at, entry_of};
 use exemptions::sheet::ENTRIES;
 use files::output::put;
 use rules::codes::{has_instruction, has_type};
 use std::io;
 use words::codes::{add_clause, add_instruction, add_kind, add_purpose, add_rulebook, add_sort};
-use words::line::{add_number, add_text};
 
 // The longest line, an entry's, takes 102 bytes.
-const LINE: usize = 128;
+type Line = words::line::Line<128>;
 
-fn is_asked(asked: u8, code: u8) -> bool {
-    (asked == 0) | (asked == code)
+fn is_asked(asked: Option<u8>, code: u8) -> bool {
+    match asked {
+        Some(one) => one == code,
+        None => true,
+    }
 }
 
 // Whether the entries of these codes' rulebook, type and kind are asked for.
-fn is_block_asked(asked: Codes, c: Codes) -> bool {
-    is_asked(asked.text.rulebook, c.text.rulebook)
+fn is_block_asked(asked: Asked, c: Codes) -> bool {
+    is_asked(asked.rulebook, c.text.rulebook)
         & is_asked(asked.sort, c.sort)
         & is_asked(asked.kind, c.kind)
 }
 
-fn is_entry_asked(asked: Codes, c: Codes) -> bool {
+fn is_entry_asked(asked: Asked, c: Codes) -> bool {
     is_block_asked(asked, c)
         & is_asked(asked.instruction, c.instruction)
         & is_asked(asked.purpose, c.purpose)
 }
 
 // Whether any entry has the codes asked for.
-pub(crate) fn has_entry(asked: Codes) -> bool {
-    for place in 0..ENTRIES {
-        if is_entry_asked(asked, codes_at(place)) {
-            return true;
-        }
-    }
-    false
+pub(crate) fn has_entry(asked: Asked) -> bool {
+    (0..ENTRIES).any(|place| is_entry_asked(asked, codes_at(place)))
 }
 
 fn put_title(rt: &HostRuntime) -> io::Result<()> {
@@ -67,22 +65,20 @@ fn put_rulebook(rt: &HostRuntime, rulebook: u8) -> io::Result<()> {
 }
 
 // The codes that a block's lines share.
-fn add_block(line: &mut [u8], at: usize, c: Codes) -> usize
-    ensures { result ≤ length line.new }
-{
-    let at = add_rulebook(line, at, c.text.rulebook);
-    let at = add_text(line, at, b", ");
-    let at = add_sort(line, at, c.sort);
-    let at = add_text(line, at, b", ");
-    add_kind(line, at, c.kind)
+fn add_block(line: &mut Line, c: Codes) {
+    add_rulebook(line, c.text.rulebook);
+    line.add_text(b", ");
+    add_sort(line, c.sort);
+    line.add_text(b", ");
+    add_kind(line, c.kind);
 }
 
 fn put_block(rt: &HostRuntime, c: Codes) -> io::Result<()> {
-    let mut line = [0u8; LINE];
-    let at = add_text(&mut line, 0, b"\n### ");
-    let at = add_block(&mut line, at, c);
-    let end = add_text(&mut line, at, b"\n\n");
-    put(rt, &line[0..end])
+    let mut line = Line::new();
+    line.add_text(b"\n### ");
+    add_block(&mut line, c);
+    line.add_text(b"\n\n");
+    put(rt, line.as_bytes())
 }
 
 fn is_first_of_block(c: Codes) -> bool {
@@ -94,8 +90,8 @@ fn is_first_of_rulebook(c: Codes) -> bool {
 }
 
 // The headings that stand before the line of these codes.
-fn put_headings(rt: &HostRuntime, asked: Codes, c: Codes) -> io::Result<()> {
-    if is_first_of_rulebook(c) & is_asked(asked.text.rulebook, c.text.rulebook) {
+fn put_headings(rt: &HostRuntime, asked: Asked, c: Codes) -> io::Result<()> {
+    if is_first_of_rulebook(c) & is_asked(asked.rulebook, c.text.rulebook) {
         put_rulebook(rt, c.text.rulebook)?;
     }
     if is_first_of_block(c) & is_block_asked(asked, c) {
@@ -105,44 +101,39 @@ fn put_headings(rt: &HostRuntime, asked: Codes, c: Codes) -> io::Result<()> {
 }
 
 // Whether such an order counts, or its clause; of codes that a rulebook does not have, that it refuses them.
-fn add_answer(line: &mut [u8], at: usize, c: Codes) -> usize
-    ensures { result ≤ length line.new }
-{
+fn add_answer(line: &mut Line, c: Codes) {
     if has_type(c.text, c.sort) & has_instruction(c.text, c.instruction) {
-        return add_clause(line, at, entry_of(c));
+        add_clause(line, entry_of(c));
+    } else {
+        line.add_text(b"exempt, refused by the rulebook");
     }
-    add_text(line, at, b"exempt, refused by the rulebook")
 }
 
-fn add_codes(line: &mut [u8], at: usize, c: Codes) -> usize
-    ensures { result ≤ length line.new }
-{
-    let at = add_block(line, at, c);
-    let at = add_text(line, at, b", ");
-    let at = add_instruction(line, at, c.instruction);
-    let at = add_text(line, at, b", ");
-    add_purpose(line, at, c.purpose)
+fn add_codes(line: &mut Line, c: Codes) {
+    add_block(line, c);
+    line.add_text(b", ");
+    add_instruction(line, c.instruction);
+    line.add_text(b", ");
+    add_purpose(line, c.purpose);
 }
 
-fn add_entry(line: &mut [u8], number: usize, c: Codes) -> usize
-    ensures { result ≤ length line.new }
-{
-    let at = add_number(line, 0, number as u64, b'.');
-    let at = add_text(line, at, b" ");
-    let at = add_codes(line, at, c);
-    let at = add_text(line, at, b": ");
-    let at = add_answer(line, at, c);
-    add_text(line, at, b"\n")
+fn add_entry(line: &mut Line, number: usize, c: Codes) {
+    line.add_number(number as u64, b'.');
+    line.add_text(b" ");
+    add_codes(line, c);
+    line.add_text(b": ");
+    add_answer(line, c);
+    line.add_text(b"\n");
 }
 
 fn put_entry(rt: &HostRuntime, number: usize, c: Codes) -> io::Result<()> {
-    let mut line = [0u8; LINE];
-    let end = add_entry(&mut line, number, c);
-    put(rt, &line[0..end])
+    let mut line = Line::new();
+    add_entry(&mut line, number, c);
+    put(rt, line.as_bytes())
 }
 
 // The headings before a place and its line, as far as they are asked for.
-fn put_place(rt: &HostRuntime, asked: Codes, place: usize) -> io::Result<()>
+fn put_place(rt: &HostRuntime, asked: Asked, place: usize) -> io::Result<()>
     requires { place < 288 }
 {
     let c = codes_at(place);
@@ -154,7 +145,7 @@ fn put_place(rt: &HostRuntime, asked: Codes, place: usize) -> io::Result<()>
 }
 
 // The page of the entries asked for, or why standard output does not take it all.
-pub(crate) fn print(rt: &HostRuntime, asked: Codes) -> io::Result<()> {
+pub(crate) fn print(rt: &HostRuntime, asked: Asked) -> io::Result<()> {
     put_title(rt)?;
     for place in 0..ENTRIES {
         put_place(rt, asked, place)?;

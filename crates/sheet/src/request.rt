@@ -1,41 +1,34 @@
 // Which entries the program's words ask for.
 ghost use Rattle.std.specs.Prelude.{◌<◌};
 
-use exemptions::lookup::Codes;
-use rules::text::Text;
 use words::asked::{count_words, word_at};
 use words::number::number_in;
 
-#[derive(Clone, Copy)]
-pub(crate) enum Request {
-    // Entries with these codes, where 0 is any code.
-    For(Codes),
-    Unclear,
+// The code of each list that entries are asked for by; any code, where there is none.
+#[derive(Clone, Copy, Default)]
+pub(crate) struct Asked {
+    pub(crate) rulebook: Option<u8>,
+    pub(crate) sort: Option<u8>,
+    pub(crate) kind: Option<u8>,
+    pub(crate) instruction: Option<u8>,
+    pub(crate) purpose: Option<u8>,
 }
 
-fn any() -> Codes {
-    Codes {
-        text: Text { rulebook: 0 },
-        sort: 0,
-        kind: 0,
-        instruction: 0,
-        purpose: 0,
+// The word at a place as a code: one digit and no more, and not 0, which no list has.
+fn code_at(rt: &HostRuntime, place: usize) -> Option<u8> {
+    let mut room = [0u8; 1];
+    let digit = number_in(word_at(rt, place, &mut room));
+    if digit == 0 {
+        return None;
     }
-}
-
-// The word at a place as a code: one digit and no more. Anything else is 0, which no list has.
-fn code_at(rt: &HostRuntime, place: usize) -> u8 {
-    let mut word = [0u8; 1];
-    let len = word_at(rt, place, &mut word);
-    number_in(&word[0..len]) as u8
+    Some(digit as u8)
 }
 
 // What was asked for, and the code that one more word names.
-fn narrowed(codes: Codes, word: &[u8], code: u8) -> Request {
-    let mut next = codes;
-    let text = Text { rulebook: code };
+fn narrowed(asked: Asked, word: &[u8], code: Option<u8>) -> Option<Asked> {
+    let mut next = asked;
     if word == b"--rulebook".as_slice() {
-        next.text = text;
+        next.rulebook = code;
     } else if word == b"--type".as_slice() {
         next.sort = code;
     } else if word == b"--kind".as_slice() {
@@ -45,40 +38,29 @@ fn narrowed(codes: Codes, word: &[u8], code: u8) -> Request {
     } else if word == b"--purpose".as_slice() {
         next.purpose = code;
     } else {
-        return Request::Unclear;
+        return None;
     }
-    Request::For(next)
+    Some(next)
 }
 
 // The same with a pair of the program's words, a list's name and a code; pairs count from 0.
-fn narrowed_by(rt: &HostRuntime, codes: Codes, pair: usize) -> Request
+fn narrowed_by(rt: &HostRuntime, asked: Asked, pair: usize) -> Option<Asked>
     requires { pair < 6 }
 {
-    let code = code_at(rt, 2 * pair + 2);
-    if code == 0 {
-        return Request::Unclear;
-    }
-    let mut word = [0u8; 16];
-    let len = word_at(rt, 2 * pair + 1, &mut word);
-    narrowed(codes, &word[..len], code)
+    let code = code_at(rt, 2 * pair + 2)?;
+    let mut room = [0u8; 16];
+    narrowed(asked, word_at(rt, 2 * pair + 1, &mut room), Some(code))
 }
 
 // What all the words ask for: at most five pairs, as there are five lists. The program's own name is counted too.
-pub(crate) fn by_words(rt: &HostRuntime) -> Request {
-    let mut codes = any();
+pub(crate) fn by_words(rt: &HostRuntime) -> Option<Asked> {
     let count = count_words(rt);
     if 11 < count {
-        return Request::Unclear;
+        return None;
     }
+    let mut asked = Asked::default();
     for pair in 0..count / 2 {
-        match narrowed_by(rt, codes, pair) {
-            Request::For(next) => {
-                codes = next;
-            }
-            Request::Unclear => {
-                return Request::Unclear;
-            }
-        }
+        asked = narrowed_by(rt, asked, pair)?;
     }
-    Request::For(codes)
+    Some(asked)
 }

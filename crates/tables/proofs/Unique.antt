@@ -2,8 +2,9 @@
 -- Assumes nothing.
 use mathlib.Core.Path.{◌≡◌, sym, ◌∙◌}
 use mathlib.Core.Bool.{Bool}
+use Prim.Native.Nat.{ℕ}
+use Rattle.std.specs.Prelude.{Option}
 use Rattle.tables.specs.declared.contracts.Contract.{Contract}
-use Rattle.tables.specs.declared.contracts.Found.{Found}
 use Rattle.tables.proofs.accounts.accounts_good.Reads as accounts_good
 use Rattle.tables.proofs.accounts.has_member.Reads as has_member
 use Rattle.tables.proofs.accounts.find_account.Reads as find_account
@@ -32,6 +33,6 @@ pub contract_at_unique : (κs : _) (a : _) (r₁ r₂ : Contract) (s₁ s₂ : _
     → contract_at.Post κs a r₁ s₁ → contract_at.Post κs a r₂ s₂ → r₁ ≡ r₂
 contract_at_unique κs a r₁ r₂ s₁ s₂ p q = p ∙ sym q
 
-pub find_contract_unique : (κs : _) (a : _) (r₁ r₂ : Found) (s₁ s₂ : _)
+pub find_contract_unique : (κs : _) (a : _) (r₁ r₂ : Option (ℕ × Contract)) (s₁ s₂ : _)
     → find_contract.Post κs a r₁ s₁ → find_contract.Post κs a r₂ s₂ → r₁ ≡ r₂
 find_contract_unique κs a r₁ r₂ s₁ s₂ p q = p ∙ sym q

@@ -1,6 +1,7 @@
 -- 01, "Layouts": "C contract entries of 8 bytes: 0..1 contract id, not zero, strictly rising; 2 type ..; 3 product, 0
 -- to 15; 4..7 largest order in lots, 1 to 1,000,000."
 use Rattle.std.specs.Prelude.{ℕ, zero, suc, ◌+◌, ◌*◌, Bool, true, false, ◌&&◌, List, leb, ltb, eqb, get_or}
+use Rattle.std.specs.Prelude.{Option, Some, None}
 use Rattle.wire.specs.Choice.{pick, within}
 use Rattle.wire.specs.Below.{every, first}
 use Rattle.wire.specs.Bytes.{le}
@@ -8,8 +9,6 @@ use Rattle.rules.specs.declared.text.Text.{Text}
 use Rattle.rules.specs.Codes.{has_type}
 use Rattle.rules.specs.Measure.{lots}
 use Rattle.tables.specs.declared.contracts.Contract.{Contract}
-use Rattle.tables.specs.declared.contracts.Found.{Found}
-use Rattle.tables.specs.declared.contracts.Found.TheVariants.{At, Nothing}
 use Rattle.tables.specs.Entries.{entries}
 
 -- the contract entry at place k of a table
@@ -46,16 +45,16 @@ unfoldable pub contract_place : (ℕ → Contract) → (contracts id : ℕ) → 
 contract_place contract contracts id = first (λ k. eqb (contract k).id id) contracts
 
 -- what the search for a contract id finds: its place and its entry
-unfoldable pub found_contract : List ℕ → ℕ → Found
+unfoldable pub found_contract : List ℕ → ℕ → Option (ℕ × Contract)
 found_contract s id =
     let place = contract_place (contract_at s) (entries s) id in
-    pick (ltb place (entries s)) (At place (contract_at s place)) Nothing
+    pick (ltb place (entries s)) (Some (place, contract_at s place)) None
 
 -- its values: whether there is such a contract, and then its place
-abbrev pub is_found : Found → Bool
-is_found (At place e) = true
-is_found Nothing = false
+abbrev pub is_found : Option (ℕ × Contract) → Bool
+is_found (Some found) = true
+is_found None = false
 
-abbrev pub place_found : Found → ℕ
-place_found (At place e) = place
-place_found Nothing = 0
+abbrev pub place_found : Option (ℕ × Contract) → ℕ
+place_found (Some found) = found.0
+place_found None = 0

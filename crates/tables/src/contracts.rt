@@ -1,13 +1,14 @@
 // The contract table: entries of 8 bytes, by rising contract id.
-ghost use Rattle.std.specs.Prelude.{◌≡◌, ◌+◌, ◌*◌, ◌≤◌, length};
-ghost use Rattle.tables.specs.ContractEntries.{contract_at, contract_good, contracts_good, contract_in, found_contract};
+ghost use Rattle.std.specs.Prelude.{◌≡◌};
 ghost use Rattle.tables.specs.Way.{contract_from};
+ghost use Rattle.tables.specs.ContractEntries.{contract_at, contract_good, contracts_good, contract_in, found_contract};
 
-use crate::word::word;
 use rules::measure::Lots;
 use rules::text::Text;
+use wire::read::get32;
 
-#[derive(Clone, Copy)]
+// Type and product are bytes as they came: which of them there are is for `contracts_good` to say, for every table.
+#[derive(Debug, Clone, Copy, PartialEq, Eq, Hash)]
 pub struct Contract {
     pub id: u16,
     pub sort: u8,
@@ -27,11 +28,10 @@ fn contract_from(head: u32, largest: u32) -> Contract
     }
 }
 
-fn contract_here(part: &[u8], k: usize) -> Contract
-    requires { 8 * k + 8 ≤ length part.now }
-    ensures { result ≡ contract_at part.now k }
+fn contract_of(entry: &[u8; 8]) -> Contract
+    ensures { result ≡ contract_at entry.now 0 }
 {
-    contract_from(word(part, 8 * k), word(part, 8 * k + 4))
+    contract_from(get32(entry, 0), get32(entry, 4))
 }
 
 fn contract_good(text: Text, before: u16, e: Contract) -> bool
@@ -49,8 +49,8 @@ pub fn contracts_good(text: Text, part: &[u8]) -> bool
 {
     let mut good = true;
     let mut before = 0;
-    for k in 0..part.len() / 8 {
-        let e = contract_here(part, k);
+    for entry in part.as_chunks::<8>().0 {
+        let e = contract_of(entry);
         good = good & contract_good(text, before, e);
         before = e.id;
     }
@@ -61,8 +61,8 @@ pub fn contracts_good(text: Text, part: &[u8]) -> bool
 pub fn contract_at(part: &[u8], k: usize) -> Contract
     ensures { result ≡ contract_in part.now k }
 {
-    if k < part.len() / 8 {
-        return contract_here(part, k);
+    if let Some(entry) = part.as_chunks::<8>().0.get(k) {
+        return contract_of(entry);
     }
     Contract {
         id: 0,
@@ -72,22 +72,15 @@ pub fn contract_at(part: &[u8], k: usize) -> Contract
     }
 }
 
-// What the search for a contract finds: its place, from 0, and its entry.
-#[derive(Clone, Copy)]
-pub enum Found {
-    At(usize, Contract),
-    Nothing,
-}
-
-// The contract with this id.
-pub fn find_contract(part: &[u8], id: u16) -> Found
+// The contract with this id: its place, from 0, and its entry.
+pub fn find_contract(part: &[u8], id: u16) -> Option<(usize, Contract)>
     ensures { result ≡ found_contract part.now id }
 {
-    for k in 0..part.len() / 8 {
-        let e = contract_here(part, k);
+    for (k, entry) in part.as_chunks::<8>().0.iter().enumerate() {
+        let e = contract_of(entry);
         if e.id == id {
-            return Found::At(k, e);
+            return Some((k, e));
         }
     }
-    Found::Nothing
+    None
 }

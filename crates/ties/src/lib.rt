@@ -5,25 +5,29 @@
 ghost use Rattle.ties.specs.Tied.{FreshTied, OpenTied, TakeTied, EndTied, AbandonTied, AskTied};
 
 use book::ask::Asked;
-use desk::end::Ended;
-use desk::state::{Answer, State};
-use desk::take::Taken;
-use posting::fresh::NewBook;
+use counts::weigh::Reasons;
+use desk::state::State;
+use wire::refusal::Refusal;
 
-fn fresh_tied(book: &mut [u8], rulebook: u64) -> NewBook
+fn fresh_tied(book: &mut [u8], rulebook: u64) -> Result<(), Refusal>
     ensures { FreshTied book.old rulebook result book.new }
 {
     desk::books::fresh(book, rulebook)
 }
 
-fn open_tied(state: State, log: &[u8], book: &[u8], counts: &mut [u32]) -> Answer
+fn open_tied(state: State, log: &[u8], book: &[u8], counts: &mut [u32]) -> Result<State, Refusal>
     ensures { OpenTied state log.now book.now counts.old
         result counts.new }
 {
     desk::open::open(state, log, book, counts)
 }
 
-fn take_tied(state: State, log: &[u8], row: &[u8], counts: &mut [u32]) -> Taken
+fn take_tied(
+    state: State,
+    log: &[u8],
+    row: &[u8],
+    counts: &mut [u32],
+) -> Result<(State, Reasons), Refusal>
     ensures { TakeTied state log.now row.now counts.old
         result counts.new }
 {
@@ -37,7 +41,7 @@ fn end_tied(
     book: &mut [u8],
     counts: &[u32],
     findings: &mut [u8],
-) -> Ended
+) -> Result<(State, usize), Refusal>
     ensures { EndTied state log.now row.now
         book.old counts.now findings.old
         result book.new findings.new }
@@ -45,13 +49,13 @@ fn end_tied(
     desk::end::end(state, log, row, book, counts, findings)
 }
 
-fn abandon_tied(state: State) -> Answer
+fn abandon_tied(state: State) -> Result<State, Refusal>
     ensures { AbandonTied state result }
 {
     desk::abandon::abandon(state)
 }
 
-fn ask_tied(book: &[u8], group: u64, kind: u64, family: u64) -> Asked
+fn ask_tied(book: &[u8], group: u64, kind: u64, family: u64) -> Result<Asked, Refusal>
     ensures { AskTied book.now group kind family result }
 {
     desk::books::ask(book, group, kind, family)

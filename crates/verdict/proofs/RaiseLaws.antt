@@ -2,13 +2,12 @@
 -- Assumes nothing.
 use mathlib.Core.Path.{◌≡◌, refl, sym, ap, ap₂, ◌∙◌}
 use mathlib.Core.Bool.{Bool}
-use mathlib.Core.List.{List, ◌++◌}
+use mathlib.Core.List.{List}
 use Prim.Native.Nat.{ℕ, ◌+◌, ◌-◌, ◌*◌, ◌/◌, ◌<◌, ◌≤◌}
 use native.Mathlib.Nat.{mul_assoc}
 use native.Mathlib.Omega.{arith}
 use borrow.Rule.Slice.PartMut.{put_mid}
 use lib.ListN.{length, take, drop, length-take, length-drop}
-use lib.Seq.{drop-drop}
 use Rattle.wire.specs.Bytes.{le, bytes}
 use Rattle.wire.specs.Buffers.{put, rows}
 use Rattle.wire.proofs.ByteLaws.{bytes_length, le_take, le_drop}
@@ -19,14 +18,9 @@ use Rattle.rules.proofs.KindLaws.{few}
 use Rattle.places.specs.Places.{book_size}
 use Rattle.book.specs.Layout.{total_at}
 use Rattle.posting.specs.Raise.{next_total, hit_at, raised_part}
+use Rattle.posting.proofs.WriteLaws.{mid_put}
 use Rattle.places.proofs.LadderLaws.{part_there, parts_there}
 use Rattle.verdict.specs.Way.{total_bytes}
-
--- a part that comes back is put where it was lent from
-pub mid_put : (s p : List ℕ) (a k : ℕ) → length p ≡ k → put_mid a k s p ≡ put s a p
-unfolding put
-mid_put s p a k e = ap (λ (l : List ℕ). take a s ++ (p ++ l)) (drop-drop k a s ∙ ap (λ (n : ℕ). drop (a + n) s)
-    (sym e))
 
 -- the totals of a group's ladders, `own` of them
 doubled : (own g j : ℕ) → 16 + 2 * own * g + 2 * j ≡ 16 + 2 * (own * g + j)

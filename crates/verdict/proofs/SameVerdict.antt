@@ -7,11 +7,15 @@ use native.Mathlib.Omega.{arith}
 use borrow.Author.Tests.{ltb-true}
 use lib.Dec.{ltb, eqb}
 use lib.ListN.{length}
+use Rattle.std.specs.Prelude.{Result, Ok}
+use Rattle.wire.specs.declared.refusal.Refusal.{Refusal}
 use Rattle.wire.specs.Choice.{pick}
-use Rattle.wire.specs.Outcomes.{answered}
+use Rattle.wire.specs.Outcomes.{answered, refused}
 use Rattle.wire.specs.Below.{count}
 use Rattle.wire.specs.Bytes.{bytes}
 use Rattle.wire.specs.Buffers.{put, rows}
+use Rattle.std.specs.Prelude.{Result, Ok}
+use Rattle.wire.specs.declared.refusal.Refusal.{Refusal}
 use Rattle.wire.proofs.ChoiceLaws.{pick_yes, pick_no}
 use Rattle.wire.proofs.BelowLaws.{count_cong}
 use Rattle.wire.proofs.BufferLaws.{rows_cong}
@@ -21,8 +25,6 @@ use Rattle.places.specs.Places.{ladders, book_size, group_at, kind_at}
 use Rattle.book.specs.Layout.{head_of, book_as, total_at}
 use Rattle.posting.specs.Raise.{later_year, next_total}
 use Rattle.places.proofs.LadderLaws.{group_low}
-use Rattle.verdict.specs.declared.settle.Settled.{Settled}
-use Rattle.verdict.specs.declared.settle.Settled.TheVariants.{Found, Refused}
 use Rattle.verdict.specs.Settle.{short_fault, settle_fault, SettleGives}
 use Rattle.verdict.specs.Verdict.{Verdict, offends, found_count, finding, total_after, sanction_at, found_at}
 use Rattle.verdict.specs.Verdict.{findings, book_after}
@@ -104,10 +106,10 @@ module _ (v w : Verdict) (s : Same v w) (date : ℕ) (book out : List ℕ) where
       ap₂ (λ k n. pick (not (eqb (length book) (book_size k))) 17 (pick (ltb (length out) (8 * n)) 20 0))
       (ap (λ x. x.kinds) s.shape) (same_count v w s)
 
-  pub settle_same : {a : Settled} {b o : List ℕ} → SettleGives v date book out a b o
+  pub settle_same : {a : Result ℕ Refusal} {b o : List ℕ} → SettleGives v date book out a b o
       → SettleGives w date book out a b o
   settle_same g = record {
-    answer = g.answer ∙ ap₂ (λ (f n : ℕ). answered f (Found n) Refused) fault_same (same_count v w s);
+    answer = g.answer ∙ ap₂ (λ (f n : ℕ). answered f (Ok n) refused) fault_same (same_count v w s);
     after =
         g.after
         ∙ ap₂ (λ (f : ℕ) (x : List ℕ × List ℕ). pick (eqb f 0) x (book, out)) fault_same

@@ -6,9 +6,12 @@ use Prim.Native.Nat.{ℕ, ◌*◌, ◌/◌, ◌<◌, ◌≤◌}
 use native.Mathlib.Omega.{arith}
 use borrow.Author.Tests.{eq-eqb, lt-ltb, le-ltb}
 use lib.ListN.{length}
+use Rattle.std.specs.Prelude.{Ok, Err}
+use Rattle.wire.specs.declared.refusal.Refusal.TheVariants.{FindingsShort}
 use Rattle.wire.specs.Buffers.{put, put_in, rows}
-use Rattle.wire.proofs.ChoiceLaws.{pick_yes, pick_no, flip_no}
-use Rattle.wire.proofs.AnswerLaws.{refused, done}
+use Rattle.wire.proofs.ChoiceLaws.{pick_yes, pick_no, pick_le, flip_no}
+use Rattle.wire.proofs.AnswerLaws.{done}
+use Rattle.wire.proofs.RefusalLaws.{refuse_all}
 use Rattle.wire.proofs.BelowLaws.{count_le}
 use Rattle.wire.proofs.BufferLaws.{put_in_lem, put_both, length_put, rows_length}
 use Rattle.book.specs.declared.shape.Shape.{Shape}
@@ -18,7 +21,6 @@ use Rattle.posting.specs.Raise.{later_year}
 use Rattle.book.proofs.BookLaws.{head_length}
 use Rattle.verdict.specs.Verdict.{Verdict, offends, found_count, total_after, findings, book_after, verdict_in}
 use Rattle.verdict.specs.Verdict.{found_in}
-use Rattle.verdict.specs.declared.settle.Settled.TheVariants.{Found, Refused}
 use Rattle.verdict.specs.Settle.{short_fault, settle_fault, SettleGives}
 use Rattle.verdict.specs.Way.{total_bytes}
 use Rattle.verdict.proofs.RaiseLaws.{row_length}
@@ -28,6 +30,11 @@ pub long_fault : (v : Verdict) (book out : List ℕ) → length book ≡ book_si
     ≡ short_fault v (length out)
 unfolding settle_fault
 long_fault v book out e = sym (pick_no _ _ _ _ (flip_no _ (eq-eqb _ _ e)) refl)
+
+-- every number is a refusal's
+pub short_most : (v : Verdict) (room : ℕ) → short_fault v room ≤ 22
+unfolding short_fault
+short_most v room = pick_le _ 20 0 22 (omega arith) (omega arith)
 
 -- there are no more findings than ladders
 pub found_most : (v : Verdict) → found_count v ≤ ladders v.shape.kinds
@@ -77,18 +84,19 @@ module _ (shape : Shape) (rulebook : ℕ) (places ids members : List ℕ) where
     unfolding verdict_in
     fault_is = long_fault v book out long
 
-    pub settle_short : length out < 8 * n → SettleGives v date book out (Refused 20) book out
+    pub settle_short : length out < 8 * n → SettleGives v date book out (Err FindingsShort) book out
     unfolding short_fault
     settle_short h =
-        refused _ 20 (pick_yes _ _ _ _ (lt-ltb (length out) (8 * found_count v) (omega (arith, counted, found_in_lem)))
-        refl ∙ sym fault_is) (λ z. absurd (omega arith))
+        refuse_all FindingsShort
+        (pick_yes _ _ _ _ (lt-ltb (length out) (8 * found_count v) (omega (arith, counted, found_in_lem))) refl
+        ∙ sym fault_is)
 
     pub settle_done : {b o : List ℕ} → 8 * n ≤ length out → b ≡ book_after v date book
         → o ≡ put out 0 (findings v date book)
-        → SettleGives v date book out (Found n) b o
+        → SettleGives v date book out (Ok n) b o
     unfolding short_fault
     settle_done h p q =
         done _ (fault_is
         ∙ sym (pick_no _ _ _ _ (le-ltb (length out) (8 * found_count v) (omega (arith, counted, found_in_lem))) refl))
-        (ap Found (counted ∙ found_in_lem))
+        (ap Ok (counted ∙ found_in_lem))
         (ap₂ (λ x y. (x, y)) p q)

@@ -12,6 +12,7 @@ use Rattle.book.specs.declared.shape.Shape.{Shape}
 use Rattle.places.specs.Places.{ladders, group_at, kind_at, family_at}
 use Rattle.book.specs.Layout.{total_at, book_as}
 use Rattle.posting.specs.Raise.{later_year, next_total, place_in, hit_at}
+use Rattle.verdict.specs.declared.ruling.Ruling.{Ruling}
 
 -- what a day's end goes by
 pub record Verdict : Type 0 where
@@ -80,6 +81,10 @@ verdict_in shape rulebook places ids members = record {
   member = λ group. eqb (get_or members (group - 1) 0) 1;
   lowest = place_in places;
 }
+
+-- that of a ruling
+abbrev pub verdict_of : Ruling → Verdict
+verdict_of r = verdict_in r.shape r.rulebook r.places.now r.ids.now r.members.now
 
 -- its number of findings takes the places alone
 unfoldable pub found_in : Kinds → List ℕ → ℕ → ℕ

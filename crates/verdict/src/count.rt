@@ -1,17 +1,10 @@
 // How many findings a day has.
-ghost use Rattle.std.specs.Prelude.{◌≡◌, ◌≤◌};
-ghost use Rattle.wire.specs.Choice.{pick};
+ghost use Rattle.std.specs.Prelude.{◌≡◌};
 ghost use Rattle.verdict.specs.Verdict.{found_in};
 
 use places::ladders_in;
 use posting::raise::place_in;
 use rules::kinds::Kinds;
-
-fn one_if(test: bool) -> usize
-    ensures { (result ≡ pick test 1 0) × (result ≤ 1) }
-{
-    if test { 1 } else { 0 }
-}
 
 // How many ladders have an offence: `places` has each ladder's lowest place, and one from `contracts` on is none.
 pub fn count_found(kinds: Kinds, places: &[u8], contracts: usize) -> usize
@@ -19,7 +12,7 @@ pub fn count_found(kinds: Kinds, places: &[u8], contracts: usize) -> usize
 {
     let mut n = 0;
     for l in 0..ladders_in(kinds) {
-        n += one_if(place_in(places, l) < contracts);
+        n += usize::from(place_in(places, l) < contracts);
     }
     n
 }

@@ -3,5 +3,6 @@
 
 pub mod count;
 mod findings;
+pub mod ruling;
 pub mod settle;
 mod totals;

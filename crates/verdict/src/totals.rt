@@ -7,7 +7,8 @@ ghost use Rattle.verdict.specs.Way.{total_bytes};
 use posting::raise::raise_group;
 use rules::kinds::{Kinds, kinds_in};
 
-// Each group's part of the book is lent on.
+// Each group's part of the book is lent on. By the group and not by `chunks_exact_mut`, which tells no more of the book
+// than its length: tried in `fill_pairs` of wire.
 pub(crate) fn raise_all(book: &mut [u8], kinds: Kinds, later: bool, places: &[u8], contracts: usize)
     requires { length book.old ≡ book_size kinds }
     ensures { book.new ≡ put book.old 16 (rows (total_bytes later places.now

@@ -2,24 +2,24 @@
 use words::asked::{count_words, word_at};
 use words::number::number_in;
 
-#[derive(Clone, Copy)]
+#[derive(Clone, Copy, PartialEq, Eq)]
 pub(crate) enum Asked {
-    // The record of this number, from 1; 0 for each that was spared.
-    For(u32),
-    Unclear,
+    // Each that was spared.
+    Spared,
+    // The record of this number, from 1.
+    Number(u32),
 }
 
 // No word, or one word that is a number. The program's own name is counted too.
-pub(crate) fn by_words(rt: &HostRuntime) -> Asked {
+pub(crate) fn by_words(rt: &HostRuntime) -> Option<Asked> {
     let count = count_words(rt);
     if count < 2 {
-        return Asked::For(0);
+        return Some(Asked::Spared);
     }
-    let mut word = [0u8; 9];
-    let len = word_at(rt, 1, &mut word);
-    let number = number_in(&word[0..len]);
+    let mut room = [0u8; 9];
+    let number = number_in(word_at(rt, 1, &mut room));
     if (count != 2) | (number == 0) {
-        return Asked::Unclear;
+        return None;
     }
-    Asked::For(number)
+    Some(Asked::Number(number))
 }

@@ -1,11 +1,14 @@
 // The day of a log: opened on a fresh book, and its records taken one by one, up to the end record.
 ghost use Rattle.std.specs.Prelude.{◌≤◌};
 
-use crate::record::{Step, take_record};
+use crate::asked::Asked;
+use crate::record::{is_asked, write_line};
+use crate::stop::Stop;
 use daylog::header::header_of;
 use daylog::record::record_length;
 use desk::open::open;
-use desk::state::{Answer, State};
+use desk::state::State;
+use desk::take::take;
 use files::said::say;
 use office::close::refuse;
 use office::input::{END, TURNS, fill_from_input};
@@ -13,18 +16,10 @@ use office::lines::{write_count, write_heading};
 use places::{MOST_BOOK, MOST_CELLS, book_size};
 use rules::kinds::kinds_of;
 use wire::read::get8;
-use wire::refusal::{FULL, LENGTH};
+use wire::refusal::Refusal;
 
 // The longest record.
 const ROW: usize = 24;
-
-#[derive(Clone, Copy)]
-enum Told {
-    // How many lines were written.
-    All(u32),
-    Refused(u32),
-    Unwritten,
-}
 
 fn fresh_size(rulebook: u64) -> usize
     ensures { result ≤ 12304 }
@@ -33,64 +28,61 @@ fn fresh_size(rulebook: u64) -> usize
 }
 
 // A book that cannot be made stays zeros: opening refuses such a log before it looks at the book.
-fn open_on(book: &mut [u8], rulebook: u64, log: &[u8], counts: &mut [u32]) -> Answer {
-    desk::books::fresh(book, rulebook);
+fn open_on(
+    book: &mut [u8],
+    rulebook: u64,
+    log: &[u8],
+    counts: &mut [u32],
+) -> Result<State, Refusal> {
+    let _ = desk::books::fresh(book, rulebook);
     open(State::Closed, log, book, counts)
 }
 
-fn open_day(log: &[u8], counts: &mut [u32]) -> Answer {
+fn open_day(log: &[u8], counts: &mut [u32]) -> Result<State, Refusal> {
     let rulebook = header_of(log).rulebook as u64;
     let size = fresh_size(rulebook);
     let mut book = [0u8; MOST_BOOK];
     open_on(&mut book[0..size], rulebook, log, counts)
 }
 
-// Takes the records, of a row's length each, and writes the lines of those that are asked for.
+// Takes the records, of a row's length each, and writes the lines of those that are asked for: how many, where all
+// went well.
 fn take_all(
     rt: &HostRuntime,
-    asked: u32,
+    asked: Asked,
     start: State,
     log: &[u8],
     row: &mut [u8],
     counts: &mut [u32],
-) -> Told {
+) -> Result<u32, Stop> {
     let mut state = start;
     let mut lines = 0;
     for turn in 0..TURNS {
         let got = fill_from_input(rt, b"why", row);
         if got.count < row.len() {
-            return Told::Refused(LENGTH);
+            return Err(Stop::Refused(Refusal::Length));
         }
         if get8(row, 0) == END {
-            return Told::All(lines);
+            return Ok(lines);
         }
-        match take_record(rt, asked, turn + 1, state, log, row, counts) {
-            Step::Passed(next) => {
-                state = next;
-            }
-            Step::Written(next) => {
-                state = next;
-                lines += 1;
-            }
-            Step::Refused(fault) => {
-                return Told::Refused(fault);
-            }
-            Step::Unwritten => {
-                return Told::Unwritten;
-            }
+        let (next, why) = take(state, log, row, counts)?;
+        state = next;
+        if is_asked(asked, turn + 1, row, why) {
+            write_line(rt, turn + 1, log, row)?;
+            lines += 1;
         }
     }
-    Told::Refused(FULL)
+    Err(Stop::Refused(Refusal::Full))
 }
 
-fn finish(rt: &HostRuntime, asked: u32, told: Told) {
+fn finish(rt: &HostRuntime, asked: Asked, told: Result<u32, Stop>) {
     match told {
-        Told::Unwritten => {}
-        Told::Refused(number) => {
-            refuse(rt, b"why", number);
+        Err(Stop::Unwritten) => {}
+        Err(Stop::Refused(refusal)) => {
+            refuse(rt, b"why", refusal.number());
         }
-        Told::All(lines) => {
-            if asked == 0 {
+        Ok(lines) => {
+            if asked == Asked::Spared {
                 write_count(rt, b"why", b"spared ", lines as u64);
             } else if lines == 0 {
                 say(rt, b"why: the log has no such record\n");
@@ -105,7 +97,7 @@ fn row_size(log: &[u8]) -> usize
     record_length(header_of(log).version)
 }
 
-fn tell_open(rt: &HostRuntime, asked: u32, state: State, log: &[u8], counts: &mut [u32]) {
+fn tell_open(rt: &HostRuntime, asked: Asked, state: State, log: &[u8], counts: &mut [u32]) {
     if write_heading(rt, b"why", b"AXD ", log) < 0 {
         return;
     }
@@ -116,12 +108,12 @@ fn tell_open(rt: &HostRuntime, asked: u32, state: State, log: &[u8], counts: &mu
 }
 
 // Tells of the record with the number asked for, or of all that were spared.
-pub(crate) fn tell(rt: &HostRuntime, asked: u32, log: &[u8]) {
+pub(crate) fn tell(rt: &HostRuntime, asked: Asked, log: &[u8]) {
     let mut counts = [0u32; MOST_CELLS];
     match open_day(log, &mut counts) {
-        Answer::Refused(number) => {
-            refuse(rt, b"why", number);
+        Err(refusal) => {
+            refuse(rt, b"why", refusal.number());
         }
-        Answer::Done(state) => tell_open(rt, asked, state, log, &mut counts),
+        Ok(state) => tell_open(rt, asked, state, log, &mut counts),
     }
 }

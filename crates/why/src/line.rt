@@ -1,83 +1,73 @@
 // The line of a record: of each kind of offence that it may be, whether it counts, or why not.
-ghost use Rattle.std.specs.Prelude.{◌≤◌, length};
-
 use counts::weigh::{Plan, Reasons};
 use daylog::record::Record;
 use words::codes::{add_clause, add_kind};
-use words::line::{add_number, add_text};
+
+// The longest line, a trade's, takes 158 bytes.
+pub(crate) type Line = words::line::Line<192>;
 
 // An account of the record, and the kind that is told of it.
-fn add_account(line: &mut [u8], at: usize, account: u32, kind: u8) -> usize
-    ensures { result ≤ length line.new }
-{
-    let at = add_text(line, at, b" account ");
-    let at = add_number(line, at, account as u64, b',');
-    let at = add_text(line, at, b" ");
-    let at = add_kind(line, at, kind);
-    add_text(line, at, b": ")
+fn add_account(line: &mut Line, account: u32, kind: u8) {
+    line.add_text(b" account ");
+    line.add_number(account as u64, b',');
+    line.add_text(b" ");
+    add_kind(line, kind);
+    line.add_text(b": ");
 }
 
 // An order's clause; where it has none and the record does not count all the same, the words that say why.
-fn add_answer(line: &mut [u8], at: usize, clause: u8, counts: bool, words: &[u8]) -> usize
-    ensures { result ≤ length line.new }
-{
+fn add_answer(line: &mut Line, clause: u8, counts: bool, words: &[u8]) {
     if (clause != 0) | counts {
-        return add_clause(line, at, clause);
+        add_clause(line, clause);
+    } else {
+        line.add_text(words);
     }
-    add_text(line, at, words)
 }
 
 // One order of a trade, by its clause and the other order's.
-fn add_side(line: &mut [u8], at: usize, clause: u8, counts: bool, other: u8) -> usize
-    ensures { result ≤ length line.new }
-{
-    if other != 0 {
-        return add_answer(line, at, clause, counts, b"the other order is exempt");
-    }
-    add_answer(line, at, clause, counts, b"two groups")
+fn add_side(line: &mut Line, clause: u8, counts: bool, other: u8) {
+    let words = if other != 0 {
+        b"the other order is exempt".as_slice()
+    } else {
+        b"two groups".as_slice()
+    };
+    add_answer(line, clause, counts, words);
 }
 
-fn add_trade(line: &mut [u8], at: usize, r: Record, p: Plan, why: Reasons) -> usize
-    ensures { result ≤ length line.new }
-{
+fn add_trade(line: &mut Line, r: Record, p: Plan, why: Reasons) {
     let first = why.first;
     let second = why.second;
-    let at = add_account(line, at, r.first, 1);
-    let at = add_side(line, at, first.own, p.own, second.own);
-    let at = add_text(line, at, b";");
-    let at = add_account(line, at, r.second, 1);
-    add_side(line, at, second.own, p.own, first.own)
+    add_account(line, r.first, 1);
+    add_side(line, first.own, p.own, second.own);
+    line.add_text(b";");
+    add_account(line, r.second, 1);
+    add_side(line, second.own, p.own, first.own);
 }
 
 // A cancel without a clause always counts as a frequent one, so that the clause says it all.
-fn add_cancel(line: &mut [u8], at: usize, r: Record, p: Plan, why: Reasons) -> usize
-    ensures { result ≤ length line.new }
-{
+fn add_cancel(line: &mut Line, r: Record, p: Plan, why: Reasons) {
     let order = why.first;
-    let at = add_account(line, at, r.first, 2);
-    let at = add_clause(line, at, order.frequent);
-    let at = add_text(line, at, b"; ");
-    let at = add_kind(line, at, 3);
-    let at = add_text(line, at, b": ");
-    add_answer(line, at, order.over, p.over, b"not large")
+    add_account(line, r.first, 2);
+    add_clause(line, order.frequent);
+    line.add_text(b"; ");
+    add_kind(line, 3);
+    line.add_text(b": ");
+    add_answer(line, order.over, p.over, b"not large");
 }
 
-fn add_kinds(line: &mut [u8], at: usize, r: Record, p: Plan, why: Reasons) -> usize
-    ensures { result ≤ length line.new }
-{
+fn add_kinds(line: &mut Line, r: Record, p: Plan, why: Reasons) {
     if r.sort == 1 {
-        return add_trade(line, at, r, p, why);
+        add_trade(line, r, p, why);
+    } else {
+        add_cancel(line, r, p, why);
     }
-    add_cancel(line, at, r, p, why)
 }
 
 // The whole line of the record that has this number in its log.
-pub(crate) fn add_record(line: &mut [u8], number: u32, r: Record, p: Plan, why: Reasons) -> usize
-    ensures { result ≤ length line.new }
-{
-    let at = add_number(line, 0, number as u64, b'.');
-    let at = add_text(line, at, b" contract ");
-    let at = add_number(line, at, r.contract as u64, b',');
-    let at = add_kinds(line, at, r, p, why);
-    add_text(line, at, b"\n")
+pub(crate) fn add_record(line: &mut Line, number: u32, r: Record, p: Plan, why: Reasons) {
+    line.add_number(number as u64, b'.');
+    line.add_text(b" contract ");
+    line.add_number(r.contract as u64, b',');
+    add_kinds(line, r, p, why);
+    line.add_text(b"\n");
 }

@@ -6,17 +6,17 @@ mod asked;
 mod day;
 mod line;
 mod record;
+mod stop;
 
-use asked::Asked;
 use files::said::say;
 use office::input::{TABLES, read_tables};
 
 fn main(rt: HostRuntime) {
-    let Asked::For(number) = asked::by_words(&rt) else {
+    let Some(asked) = asked::by_words(&rt) else {
         say(&rt, b"usage: why [NUMBER] <day.axd\n");
         return;
     };
-    let mut log = [0u8; TABLES];
-    let end = read_tables(&rt, b"why", &mut log);
-    day::tell(&rt, number, &log[0..end]);
+    let mut room = [0u8; TABLES];
+    let log = read_tables(&rt, b"why", &mut room);
+    day::tell(&rt, asked, log);
 }

@@ -2,7 +2,7 @@
 use mathlib.Core.Path.{◌≡◌, refl, sym, ap, ◌∙◌}
 use mathlib.Core.Bool.{Bool, true, false}
 use Prim.Native.Nat.{ℕ}
-use borrow.Author.Tests.{eqb-true, eq-eqb, ne_eqb}
+use borrow.Author.Tests.{eqb-true, eqb-false, eq-eqb, ne_eqb}
 use lib.Dec.{eqb}
 use Rattle.wire.specs.Choice.{pick, or_else}
 use Rattle.wire.specs.Outcomes.{answered, Outcome}
@@ -26,14 +26,14 @@ module _ {A : Type 0} (d : A) (r : ℕ → A) where
   answer_then f g e is = rw (or_else_lem f g e) is
 
   -- the paper's number of it: 0 where it is done, and the refusal's
-  pub answer_number : (number : A → ℕ) (fault : ℕ) → number d ≡ 0 → number (r fault) ≡ fault
+  pub answer_number : (number : A → ℕ) (fault : ℕ) → number d ≡ 0 → ((fault ≡ 0 → ⊥) → number (r fault) ≡ fault)
       → number (answered fault d r) ≡ fault
   unfolding answered
   answer_number number fault y n = go (eqb fault 0) refl
     where
       go : (t : Bool) → eqb fault 0 ≡ t → number (pick (eqb fault 0) d (r fault)) ≡ fault
       go true e = ap number (sym (pick_yes _ _ _ _ e refl)) ∙ y ∙ sym (eqb-true fault 0 e)
-      go false e = ap number (sym (pick_no _ _ _ _ e refl)) ∙ n
+      go false e = ap number (sym (pick_no _ _ _ _ e refl)) ∙ n (eqb-false fault 0 e)
 
 -- an answer told in other words is chosen by the same number
 pub answer_map : {A B : Type 0} (f : A → B) (d : A) (r : ℕ → A) (fault : ℕ) → f (answered fault d r)
@@ -47,21 +47,12 @@ answer_map f d r fault = go (eqb fault 0) refl
 
 -- ---- with the buffers
 module _ {A B : Type 0} {d : A} {r : ℕ → A} {new old : B} where
-  pub refused : (fault n : ℕ) → n ≡ fault → (n ≡ 0 → ⊥) → Outcome fault d r new old (r n) old
-  refused fault n e some = record {
-    answer = answer_refused d r fault n e some;
-    after = pick_no _ _ _ _ (ne_eqb fault 0 (λ z. some (e ∙ z))) refl;
-  }
-
   pub done : (fault : ℕ) {a : A} {b : B} → fault ≡ 0 → a ≡ d → b ≡ new → Outcome fault d r new old a b
   done fault e is after = record {
     answer = answer_done d r fault e is;
     after =
         pick_yes _ _ _ _ (eq-eqb fault 0 e) after;
   }
-
-  pub refused_first : (f g n : ℕ) → n ≡ f → (n ≡ 0 → ⊥) → Outcome (or_else f g) d r new old (r n) old
-  refused_first f g n e some = refused (or_else f g) n (or_first_by f g n e some) some
 
   pub then_by : (f g : ℕ) {a : A} {b : B} → f ≡ 0 → Outcome g d r new old a b → Outcome (or_else f g) d r new old a b
   then_by f g e o = rw (or_else_lem f g e) o

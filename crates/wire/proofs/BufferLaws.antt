@@ -28,10 +28,7 @@ pub put_in_lem : (s : List ℕ) (at : ℕ) (p : List ℕ) → at + length p ≤ 
 unfolding put_in
 put_in_lem s at p h = sym (pick_yes _ (put s at p) _ _ (le-leb _ _ h) refl)
 
--- two stores, and four, as straight-line code leaves them
-pub put_two : (s : List ℕ) (at a b : ℕ) → at + 2 ≤ length s → set (set s at a) (at + 1) b ≡ put s at (a ∷ b ∷ [])
-put_two s at a b h = rw add-one (put_sets s at (a ∷ b ∷ []) h)
-
+-- four stores, as straight-line code leaves them
 pub put_four : (s : List ℕ) (at a b c d : ℕ) → at + 4 ≤ length s
     → set (set (set (set s at a) (at + 1) b) (at + 2) c) (at + 3) d ≡ put s at (a ∷ b ∷ c ∷ d ∷ [])
 put_four s at a b c d h =
@@ -39,11 +36,7 @@ put_four s at a b c d h =
     let three : at + 3 ≡ suc (suc (suc at)) = omega arith in
     rw (add-one, two, three) (put_sets s at (a ∷ b ∷ c ∷ d ∷ []) h)
 
--- a number written where it fits, and one that does not fit
-pub fitting : (n : ℕ) (s r : List ℕ) (at v : ℕ) → at + n ≤ length s → r ≡ put s at (bytes n v)
-    → r ≡ put_in s at (bytes n v)
-fitting n s r at v h e = e ∙ sym (put_in_lem s at (bytes n v) (rw bytes_length h))
-
+-- what does not fit, and a number that does not fit
 pub past_end : (s : List ℕ) (at : ℕ) (p : List ℕ) → length s < at + length p → s ≡ put_in s at p
 unfolding put_in
 past_end s at p h = pick_no _ s _ _ (lt-leb (at + length p) (length s) h) refl

@@ -6,7 +6,8 @@ use native.Mathlib.Nat.{add-zero, suc-add, add-suc, zero-add, add_assoc, pow-suc
 use native.Mathlib.Omega.{arith}
 use lib.ListN.{length, get_or, take, drop, get_or-eq_default}
 use lib.Seq.{get_or-drop, get_or-take}
-use Rattle.wire.specs.Bytes.{le, bytes}
+use Rattle.std.specs.List.{slice_index}
+use Rattle.wire.specs.Bytes.{le, bytes, IsRead}
 
 -- past the end there is nothing
 pub le_past : (n : ℕ) (s : List ℕ) (i : ℕ) → length s ≤ i → le n s i ≡ 0
@@ -31,6 +32,31 @@ pub le_four : (s : List ℕ) (i j k l : ℕ) → j ≡ i + 1 → k ≡ i + 2 →
     → le 4 s i ≡ get_or s i 0 + 256 * get_or s j 0 + 65536 * get_or s k 0 + 16777216 * get_or s l 0
 le_four s i j k l ej ek el =
     omega (arith, le_split 2 2 s i, le_two s i j ej, le_two s (i + 2) l (omega arith), ap (λ (n : ℕ). get_or s n 0) ek)
+
+-- the number in two bytes that were read, and in four
+pub read_two : (s bs : List ℕ) (i : ℕ) → IsRead s i 2 bs → slice_index bs 0 + slice_index bs 1 * 256 ≡ le 2 s i
+read_two s bs i r =
+    omega (
+      arith,
+      le_two s i (i + 1) refl,
+      add-zero i,
+      ap (λ (n : ℕ). get_or s n 0) (add-zero i),
+      r.1 0 (omega arith),
+      r.1 1 (omega arith),
+    )
+
+pub read_four : (s bs : List ℕ) (i : ℕ) → IsRead s i 4 bs
+    → slice_index bs 0 + slice_index bs 1 * 256 + slice_index bs 2 * 65536 + slice_index bs 3 * 16777216 ≡ le 4 s i
+read_four s bs i r =
+    omega (
+      arith,
+      le_four s i (i + 1) (i + 2) (i + 3) refl refl refl,
+      ap (λ (n : ℕ). get_or s n 0) (add-zero i),
+      r.1 0 (omega arith),
+      r.1 1 (omega arith),
+      r.1 2 (omega arith),
+      r.1 3 (omega arith),
+    )
 
 -- numbers in bytes of 8 bits: 16 bits, and 32
 pub pair_low : (s : List ℕ) (i : ℕ) → ((j : ℕ) → get_or s j 0 < 256) → le 2 s i < 65536

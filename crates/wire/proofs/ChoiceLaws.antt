@@ -6,6 +6,7 @@ use native.Mathlib.Omega.{arith}
 use lib.Dec.{leb, eqb}
 use borrow.Author.Tests.{eqb-true, eqb-false, leb-true, lt-ltb, le-ltb, le-leb, lt-leb, eq-eqb, ne_eqb, not-true}
 use borrow.Author.Tests.{not-false}
+use mir.Val.{bool_byte as from_bool}
 use Rattle.wire.specs.Choice.{pick, within, or_else}
 
 module _ {A : Type 0} where
@@ -22,6 +23,12 @@ module _ {A : Type 0} where
   unfolding pick
   pick_same true a = refl
   pick_same false a = refl
+
+-- a test as a number
+pub bit_of : (t : Bool) → from_bool t ≡ pick t 1 0
+unfolding pick
+bit_of true = refl
+bit_of false = refl
 
 -- a chain of refusals that gave 0: this one did not hold, and the rest gave 0
 pub pick_zero : (t : Bool) (n r : ℕ) → 0 < n → pick t n r ≡ 0 → (t ≡ false) × (r ≡ 0)
@@ -119,6 +126,11 @@ or_after a b c h = go (eqb a 0) refl
     go : (t : Bool) → eqb a 0 ≡ t → or_else a b ≡ or_else a c
     go true e = ap (or_else a) (h (eqb-true a 0 e))
     go false e = let n = eqb-false a 0 e in or_first a b n ∙ sym (or_first a c n)
+
+-- a bound of both lists of refusals bounds the two together
+pub or_most : (a b m : ℕ) → a ≤ m → b ≤ m → or_else a b ≤ m
+unfolding or_else
+or_most a b m p q = pick_le (eqb a 0) b a m q p
 
 -- a number that no link of a chain has
 pub pick_not : (t : Bool) (n r m : ℕ) → (n ≡ m → ⊥) → (r ≡ m → ⊥) → pick t n r ≡ m → ⊥

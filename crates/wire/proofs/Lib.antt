@@ -1,9 +1,12 @@
+pub mod RefusalLaws
 pub mod ChoiceLaws
 pub mod AnswerLaws
 pub mod BelowLaws
 pub mod ByteLaws
 pub mod BufferLaws
 pub mod TurnLaws
+pub mod FillLaws
+pub mod ChainLaws
 pub mod KeptLaws
 pub mod PartLaws
 pub mod Unique

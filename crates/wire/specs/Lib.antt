@@ -1,4 +1,5 @@
 pub mod Choice
+pub mod Refusals
 pub mod Outcomes
 pub mod Below
 pub mod Bytes

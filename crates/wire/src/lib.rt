@@ -2,6 +2,7 @@
 // contracts speak of bytes.
 #![tactic(auto)]
 
+pub mod fill;
 pub mod read;
 pub mod refusal;
 pub mod write;

@@ -1,7 +1,7 @@
 // Numbers written to bytes. Where a number does not fit, nothing is written.
-ghost use Rattle.std.specs.Prelude.{◌≡◌, [], ◌∷◌, ◌+◌, ◌≤◌, length};
+ghost use Rattle.std.specs.Prelude.{◌≡◌, [], ◌∷◌};
 ghost use Rattle.wire.specs.Bytes.{bytes};
-ghost use Rattle.wire.specs.Buffers.{put, put_in};
+ghost use Rattle.wire.specs.Buffers.{put_in};
 
 // One byte at a place.
 pub fn put8(s: &mut [u8], at: usize, v: u8)
@@ -12,46 +12,29 @@ pub fn put8(s: &mut [u8], at: usize, v: u8)
     }
 }
 
-fn store16(s: &mut [u8], at: usize, v: u16)
-    requires { at + 2 ≤ length s.old }
-    ensures { s.new ≡ put s.old at (bytes 2 v) }
+// Some bytes from a place on.
+fn put_bytes(s: &mut [u8], at: usize, v: &[u8])
+    ensures { s.new ≡ put_in s.old at v.now }
 {
-    s[at] = (v % 256) as u8;
-    s[at + 1] = (v / 256 % 256) as u8;
+    if s.len() < v.len() {
+        return;
+    }
+    if s.len() - v.len() < at {
+        return;
+    }
+    s[at..at + v.len()].copy_from_slice(v);
 }
 
 // 16 bits at a place, the low byte first.
 pub fn put16(s: &mut [u8], at: usize, v: u16)
     ensures { s.new ≡ put_in s.old at (bytes 2 v) }
 {
-    if s.len() < 2 {
-        return;
-    }
-    if s.len() - 2 < at {
-        return;
-    }
-    store16(s, at, v);
-}
-
-fn store32(s: &mut [u8], at: usize, v: u32)
-    requires { at + 4 ≤ length s.old }
-    ensures { s.new ≡ put s.old at (bytes 4 v) }
-{
-    s[at] = (v % 256) as u8;
-    s[at + 1] = (v / 256 % 256) as u8;
-    s[at + 2] = (v / 256 / 256 % 256) as u8;
-    s[at + 3] = (v / 256 / 256 / 256 % 256) as u8;
+    put_bytes(s, at, &u16::to_le_bytes(v));
 }
 
 // 32 bits at a place, the low byte first.
 pub fn put32(s: &mut [u8], at: usize, v: u32)
     ensures { s.new ≡ put_in s.old at (bytes 4 v) }
 {
-    if s.len() < 4 {
-        return;
-    }
-    if s.len() - 4 < at {
-        return;
-    }
-    store32(s, at, v);
+    put_bytes(s, at, &u32::to_le_bytes(v));
 }

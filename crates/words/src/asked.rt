@@ -3,12 +3,13 @@ ghost use Rattle.std.specs.Prelude.{◌≤◌, length};
 
 use std::env::{Env, FillError};
 
-// Puts the word at a place, counted from 0, at the buffer's start, and answers its length: 0 where there is no such
-// word, and where it is longer than the buffer.
-pub fn word_at(rt: &HostRuntime, place: usize, word: &mut [u8]) -> usize
-    ensures { result ≤ length word.new }
+// Puts the word at a place, counted from 0, in the room, and answers it: no bytes where there is no such word, and
+// where it is longer than the room.
+pub fn word_at<'a>(rt: &HostRuntime, place: usize, room: &'a mut [u8]) -> &'a [u8]
+    ensures { length result.now ≤ length room.old }
 {
-    rt.arg(place, word).unwrap_or(0)
+    let len = rt.arg(place, room).unwrap_or(0);
+    &room[..len]
 }
 
 fn has_word(rt: &HostRuntime, place: usize) -> bool {
@@ -17,10 +18,7 @@ fn has_word(rt: &HostRuntime, place: usize) -> bool {
 }
 
 pub fn count_words(rt: &HostRuntime) -> usize {
-    for place in 0..usize::MAX {
-        if !has_word(rt, place) {
-            return place;
-        }
-    }
-    usize::MAX
+    (0..usize::MAX)
+        .find(|place| !has_word(rt, *place))
+        .unwrap_or(usize::MAX)
 }

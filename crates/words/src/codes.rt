@@ -1,68 +1,69 @@
-// The codes in words, each put at a place of a line.
-ghost use Rattle.std.specs.Prelude.{◌≤◌, length};
+// The codes in words, each added to a line. They stay bytes, as a log has them: each function answers for any byte, and
+// an enum would ask more of callers than it did.
+ghost use Rattle.words.specs.Line.{Adds};
 
-use crate::line::add_text;
+use crate::line::Line;
 
-pub fn add_rulebook(line: &mut [u8], at: usize, rulebook: u8) -> usize
-    ensures { result ≤ length line.new }
+pub fn add_rulebook<const N: usize>(line: &mut Line<N>, rulebook: u8)
+    ensures { Adds N line.old line.new }
 {
     match rulebook {
-        1 => add_text(line, at, b"DCE"),
-        _ => add_text(line, at, b"CFX"),
+        1 => line.add_text(b"DCE"),
+        _ => line.add_text(b"CFX"),
     }
 }
 
-pub fn add_sort(line: &mut [u8], at: usize, sort: u8) -> usize
-    ensures { result ≤ length line.new }
+pub fn add_sort<const N: usize>(line: &mut Line<N>, sort: u8)
+    ensures { Adds N line.old line.new }
 {
     match sort {
-        1 => add_text(line, at, b"futures"),
-        _ => add_text(line, at, b"option"),
+        1 => line.add_text(b"futures"),
+        _ => line.add_text(b"option"),
     }
 }
 
-pub fn add_kind(line: &mut [u8], at: usize, kind: u8) -> usize
-    ensures { result ≤ length line.new }
+pub fn add_kind<const N: usize>(line: &mut Line<N>, kind: u8)
+    ensures { Adds N line.old line.new }
 {
     match kind {
-        1 => add_text(line, at, b"self-trade"),
-        2 => add_text(line, at, b"frequent cancels"),
-        _ => add_text(line, at, b"large cancels"),
+        1 => line.add_text(b"self-trade"),
+        2 => line.add_text(b"frequent cancels"),
+        _ => line.add_text(b"large cancels"),
     }
 }
 
-pub fn add_instruction(line: &mut [u8], at: usize, instruction: u8) -> usize
-    ensures { result ≤ length line.new }
+pub fn add_instruction<const N: usize>(line: &mut Line<N>, instruction: u8)
+    ensures { Adds N line.old line.new }
 {
     match instruction {
-        1 => add_text(line, at, b"plain limit"),
-        2 => add_text(line, at, b"market"),
-        3 => add_text(line, at, b"stop"),
-        4 => add_text(line, at, b"arbitrage order"),
-        5 => add_text(line, at, b"FOK"),
-        _ => add_text(line, at, b"FAK"),
+        1 => line.add_text(b"plain limit"),
+        2 => line.add_text(b"market"),
+        3 => line.add_text(b"stop"),
+        4 => line.add_text(b"arbitrage order"),
+        5 => line.add_text(b"FOK"),
+        _ => line.add_text(b"FAK"),
     }
 }
 
-pub fn add_purpose(line: &mut [u8], at: usize, purpose: u8) -> usize
-    ensures { result ≤ length line.new }
+pub fn add_purpose<const N: usize>(line: &mut Line<N>, purpose: u8)
+    ensures { Adds N line.old line.new }
 {
     match purpose {
-        1 => add_text(line, at, b"ordinary"),
-        2 => add_text(line, at, b"hedge"),
-        3 => add_text(line, at, b"arbitrage"),
-        _ => add_text(line, at, b"market making"),
+        1 => line.add_text(b"ordinary"),
+        2 => line.add_text(b"hedge"),
+        3 => line.add_text(b"arbitrage"),
+        _ => line.add_text(b"market making"),
     }
 }
 
 // By which clause an order is exempt, or that it counts.
-pub fn add_clause(line: &mut [u8], at: usize, clause: u8) -> usize
-    ensures { result ≤ length line.new }
+pub fn add_clause<const N: usize>(line: &mut Line<N>, clause: u8)
+    ensures { Adds N line.old line.new }
 {
     match clause {
-        0 => add_text(line, at, b"counts"),
-        1 => add_text(line, at, b"exempt by instruction"),
-        2 => add_text(line, at, b"exempt by purpose"),
-        _ => add_text(line, at, b"exempt by instruction and purpose"),
+        0 => line.add_text(b"counts"),
+        1 => line.add_text(b"exempt by instruction"),
+        2 => line.add_text(b"exempt by purpose"),
+        _ => line.add_text(b"exempt by instruction and purpose"),
     }
 }

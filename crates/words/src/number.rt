@@ -15,7 +15,8 @@ fn digit_of(byte: u8) -> u32
     (byte - b'0') as u32
 }
 
-// The number that 1 to 9 decimal digits name. Anything else is 0.
+// The number that 1 to 9 decimal digits name. Anything else is 0: no Option, since the theorem `number_in_unique` holds
+// that answer.
 pub fn number_in(word: &[u8]) -> u32
     ensures { result ≡ number_in word.now }
 {
@@ -23,12 +24,11 @@ pub fn number_in(word: &[u8]) -> u32
         return 0;
     }
     let mut n = 0;
-    for i in 0..word.len() {
-        let byte = word[i];
-        if !is_digit(byte) {
+    for byte in word {
+        if !is_digit(*byte) {
             return 0;
         }
-        n = 10 * n + digit_of(byte);
+        n = 10 * n + digit_of(*byte);
     }
     n
 }

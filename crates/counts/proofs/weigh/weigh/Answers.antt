@@ -5,10 +5,12 @@ use Prim.Native.Nat.{ℕ, ◌+◌, ◌*◌}
 use native.Mathlib.Omega.{arith}
 use lib.ListN.{length}
 use borrow.Author.Rules.{rules}
+use Rattle.std.specs.Prelude.{Ok}
 use Rattle.wire.proofs.ChoiceLaws.{pick_yes, pick_no, told}
 use Rattle.wire.proofs.PartLaws.{part_rest}
-use Rattle.wire.specs.Outcomes.{answered}
-use Rattle.wire.proofs.AnswerLaws.{answer_first, answer_then, answer_refused}
+use Rattle.wire.specs.Outcomes.{answered, refused}
+use Rattle.wire.proofs.AnswerLaws.{answer_first, answer_then}
+use Rattle.wire.proofs.RefusalLaws.{refuse}
 use Rattle.tables.specs.Accounts.{accounts_good}
 use Rattle.daylog.specs.declared.header.Header.{Header}
 use Rattle.daylog.specs.Header.{header_of}
@@ -17,7 +19,6 @@ use Rattle.daylog.specs.Changed.{tables_changed, changed_fault}
 use Rattle.daylog.proofs.LentTables.{lent_tables, lent_short}
 use Rattle.daylog.proofs.ChangedLaws.{still_good}
 use Rattle.counts.specs.Counting.{weighed}
-use Rattle.counts.specs.declared.weigh.Weighed.TheVariants.{Counts, Refused}
 use Rattle.counts.specs.Weigh.{plan_in, reasons_in, record_fault, weigh_fault, weighed_on}
 use Rattle.counts.proofs.weigh.weigh.Goals as goal
 
@@ -34,15 +35,15 @@ still head log b p q = still_good _ _ (told _ _ _ p q)
 pub returns-then-tables_changed : goal.returns-then-tables_changed
 unfolding weighed_on weigh_fault
 returns-then-tables_changed c =
-    answer_first _ _ _ _ _ (pick_yes _ _ _ _ (told _ _ _ c.tables_changed.ensures c.if-tables_changed.true) refl)
+    answer_first (Ok _) refused _ _ 19
+    (pick_yes _ _ _ _ (told _ _ _ c.tables_changed.ensures c.if-tables_changed.true) refl)
     (λ z. absurd (omega arith))
 
 pub returns-then-brokers_wrong : goal.returns-then-brokers_wrong
 unfolding weighed_on weigh_fault record_fault
 returns-then-brokers_wrong c =
     answer_then _ _ _ _ (unchanged_fault _ _ _ c.tables_changed.ensures c.if-tables_changed.false)
-    (answer_refused _ _ _ _ (pick_yes _ _ _ _ (told _ _ _ c.brokers_wrong.ensures c.if-brokers_wrong.true) refl)
-    (λ z. absurd (omega arith)))
+    (refuse _ _ (pick_yes _ _ _ _ (told _ _ _ c.brokers_wrong.ensures c.if-brokers_wrong.true) refl))
 
 pub slice_bounds-weigh_in-end : goal.slice_bounds-weigh_in-end
 slice_bounds-weigh_in-end c =
@@ -74,11 +75,11 @@ pub returns : goal.returns
 unfolding weighed_on weigh_fault record_fault weighed
 returns c =
     let a = c.args in
-    let counts = Counts (plan_in a.log.now a.row.now) (reasons_in a.log.now a.row.now) in
+    let counts = Ok (plan_in a.log.now a.row.now, reasons_in a.log.now a.row.now) in
     answer_then _ _ _ _ (unchanged_fault _ _ _ c.tables_changed.ensures c.if-tables_changed.false)
     (rw c.text_of.ensures at c.weigh_in.ensures
     ∙ ap₂ weighed
     (lent_tables a.head a.log.now (still _ _ _ c.tables_changed.ensures c.if-tables_changed.false).0)
     c.record_of.ensures
-    ∙ ap (λ (n : ℕ). answered n counts Refused)
+    ∙ ap (λ (n : ℕ). answered n counts refused)
     (pick_no _ _ _ _ (told _ _ _ c.brokers_wrong.ensures c.if-brokers_wrong.false) refl))

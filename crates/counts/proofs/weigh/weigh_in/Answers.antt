@@ -1,6 +1,6 @@
-use mathlib.Core.Path.{◌≡◌, sym, ◌∙◌}
+use mathlib.Core.Path.{◌≡◌, sym, ap, ◌∙◌}
 use mathlib.Core.Bool.{true}
-use native.Mathlib.Omega.{arith}
+use Rattle.std.specs.Prelude.{Ok}
 use Rattle.wire.proofs.ChoiceLaws.{told, chain}
 use Rattle.daylog.specs.Records.{record_good}
 use Rattle.tables.specs.Tables.{tables_in}
@@ -15,22 +15,22 @@ pub returns-then-not-record_good : goal.returns-then-not-record_good
 unfolding fields_fault tables_in
 returns-then-not-record_good c =
     let a = c.args in
-    refused_by (tables_in a.text a.contracts.now a.accounts.now) a.r 11 (search chain depth 12) (λ z. omega arith)
+    refused_by (tables_in a.text a.contracts.now a.accounts.now) a.r _ (search chain depth 12)
 
 pub returns-in_default : goal.returns-in_default
 unfolding fields_fault tables_in
 returns-in_default c =
     let a = c.args in
     let fields : record_good a.text a.r ≡ true = told _ _ _ c.record_good.ensures c.if-not-record_good.false in
-    let found = sym c.in_default.is ∙ c.find_contract-found.ensures in
+    let found = sym c.in_default.is ∙ c.find_contract.ensures in
     let away = no_contract a.text a.contracts.now a.accounts.now a.r.contract found in
-    refused_by (tables_in a.text a.contracts.now a.accounts.now) a.r 12 (search chain depth 12) (λ z. omega arith)
+    refused_by (tables_in a.text a.contracts.now a.accounts.now) a.r _ (search chain depth 12)
 
 pub overflow_cast-place : goal.overflow_cast-place
 overflow_cast-place c =
     let a = c.args in
     let h = a_contract a.text a.contracts.now a.accounts.now a.r.contract _ _
-    (sym c.in-At.is ∙ c.find_contract-found.ensures) in
+    (sym c.in-Some.is ∙ c.find_contract.ensures) in
     record { fits = place_fits _ _ _ _ _ _ h c.requires.0 }
 
 pub returns-then-first-eq0 : goal.returns-then-first-eq0
@@ -39,12 +39,12 @@ returns-then-first-eq0 c =
     let a = c.args in
     let fields : record_good a.text a.r ≡ true = told _ _ _ c.record_good.ensures c.if-not-record_good.false in
     let h = a_contract a.text a.contracts.now a.accounts.now a.r.contract _ _
-    (sym c.in-At.is ∙ c.find_contract-found.ensures) in
+    (sym c.in-Some.is ∙ c.find_contract.ensures) in
     let contract = h.has in
     let e = c.find_account-first.ensures.by_halving in
     let none = c.if-first-eq0.true in
     let away = no_account a.text a.contracts.now a.accounts.now a.r.first c.requires.1 _ e none in
-    refused_by (tables_in a.text a.contracts.now a.accounts.now) a.r 13 (search chain depth 12) (λ z. omega arith)
+    refused_by (tables_in a.text a.contracts.now a.accounts.now) a.r _ (search chain depth 12)
 
 pub returns-then-r-ne1 : goal.returns-then-r-ne1
 unfolding tables_in
@@ -53,13 +53,13 @@ returns-then-r-ne1 c =
     let t = tables_in a.text a.contracts.now a.accounts.now in
     let fields : record_good a.text a.r ≡ true = told _ _ _ c.record_good.ensures c.if-not-record_good.false in
     let h = a_contract a.text a.contracts.now a.accounts.now a.r.contract _ _
-    (sym c.in-At.is ∙ c.find_contract-found.ensures) in
+    (sym c.in-Some.is ∙ c.find_contract.ensures) in
     let e = c.find_account-first.ensures.by_halving in
     let one_there = an_account a.text a.contracts.now a.accounts.now a.r.first c.requires.1 _ e c.if-first-eq0.false in
     let one = its_group a.text a.contracts.now a.accounts.now a.r.first c.requires.1 _ e c.if-first-eq0.false in
     let other = c.if-r-ne1.true in
     let group = c.get8.ensures ∙ one in
-    c.weigh_for.ensures
+    ap Ok c.weigh_for.ensures
     ∙ counts_by _ a.r _ _ (second_none t a.r fields h.has one_there other)
     (plan_none t a.r _ _ _ h.entry h.place group 0 other)
     (reasons_is t a.r _ _ _ h.entry h.place group)
@@ -71,14 +71,13 @@ returns-then-second-eq0 c =
     let t = tables_in a.text a.contracts.now a.accounts.now in
     let fields : record_good a.text a.r ≡ true = told _ _ _ c.record_good.ensures c.if-not-record_good.false in
     let h = a_contract a.text a.contracts.now a.accounts.now a.r.contract _ _
-    (sym c.in-At.is ∙ c.find_contract-found.ensures) in
+    (sym c.in-Some.is ∙ c.find_contract.ensures) in
     let e = c.find_account-first.ensures.by_halving in
     let one_there = an_account a.text a.contracts.now a.accounts.now a.r.first c.requires.1 _ e c.if-first-eq0.false in
     let trade = c.if-r-ne1.false in
     let f = c.find_account-second.ensures.by_halving in
     let away = no_account a.text a.contracts.now a.accounts.now a.r.second c.requires.1 _ f c.if-second-eq0.true in
-    refused_by t a.r 13
-    (second_missing t a.r fields h.has one_there trade away) (λ z. omega arith)
+    refused_by t a.r _ (second_missing t a.r fields h.has one_there trade away)
 
 pub returns : goal.returns
 unfolding tables_in
@@ -87,7 +86,7 @@ returns c =
     let t = tables_in a.text a.contracts.now a.accounts.now in
     let fields : record_good a.text a.r ≡ true = told _ _ _ c.record_good.ensures c.if-not-record_good.false in
     let h = a_contract a.text a.contracts.now a.accounts.now a.r.contract _ _
-    (sym c.in-At.is ∙ c.find_contract-found.ensures) in
+    (sym c.in-Some.is ∙ c.find_contract.ensures) in
     let e = c.find_account-first.ensures.by_halving in
     let one_there = an_account a.text a.contracts.now a.accounts.now a.r.first c.requires.1 _ e c.if-first-eq0.false in
     let one = its_group a.text a.contracts.now a.accounts.now a.r.first c.requires.1 _ e c.if-first-eq0.false in
@@ -97,7 +96,7 @@ returns c =
     let two = its_group a.text a.contracts.now a.accounts.now a.r.second c.requires.1 _ f some in
     let group = c.get8-2.ensures ∙ one in
     let group2 = c.get8-3.ensures ∙ two in
-    c.weigh_for-2.ensures
+    ap Ok c.weigh_for-2.ensures
     ∙ counts_by _ a.r _ _ (second_there t a.r fields h.has one_there there)
     (plan_is t a.r _ _ _ h.entry h.place group _ group2)
     (reasons_is t a.r _ _ _ h.entry h.place group)

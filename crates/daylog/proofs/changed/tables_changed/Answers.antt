@@ -1,20 +1,15 @@
 use mathlib.Core.Path.{◌∙◌, ap}
-use mathlib.Core.Bool.{not}
-use lib.Dec.{eqb}
-use Rattle.wire.proofs.ChoiceLaws.{told}
-use Rattle.daylog.specs.Changed.{same_header}
-use Rattle.daylog.proofs.ChangedLaws.{changed_head, changed_by}
+use Rattle.std.specs.Prelude.{is_err}
+use Rattle.wire.proofs.RefusalLaws.{check_fails}
+use Rattle.daylog.specs.Header.{log_fault}
+use Rattle.daylog.proofs.ChangedLaws.{changed_fields, kept_fields}
 use Rattle.daylog.proofs.changed.tables_changed.Goals as goal
 
-pub returns-then-not-same_header : goal.returns-then-not-same_header
-returns-then-not-same_header c =
-    let a = c.args in
-    let e = c.same_header.ensures ∙ ap (same_header a.head) c.header_of.ensures in
-    changed_head a.head a.log.now (told _ _ _ e c.if-not-same_header.true)
+pub returns-then-ne : goal.returns-then-ne
+returns-then-ne c = let a = c.args in changed_fields a.head _ a.log.now c.header_of.ensures c.if-ne.ensures
 
 pub returns : goal.returns
 returns c =
     let a = c.args in
-    let e = c.same_header.ensures ∙ ap (same_header a.head) c.header_of.ensures in
-    ap (λ n. not (eqb n 0)) c.log_fault.ensures
-    ∙ changed_by a.head a.log.now (told _ _ _ e c.if-not-same_header.false)
+    c.is_err.ensures.value ∙ ap is_err c.check_log.ensures ∙ check_fails (log_fault a.log.now)
+    ∙ kept_fields a.head _ a.log.now c.header_of.ensures c.if-ne.ensures

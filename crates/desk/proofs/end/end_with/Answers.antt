@@ -1,37 +1,37 @@
-use mathlib.Core.Path.{sym, ap, ◌∙◌}
-use native.Mathlib.Omega.{arith}
-use Rattle.wire.proofs.AnswerLaws.{refused_first}
+use mathlib.Core.Path.{◌≡◌, ap, ◌∙◌}
+use borrow.Author.Rules.{rules}
+use Rattle.std.specs.Prelude.{Err}
+use Rattle.wire.specs.Outcomes.{checked}
+use Rattle.wire.proofs.RefusalLaws.{keep_on, accepted}
 use Rattle.desk.specs.End.{cells_fault, counts_fault}
 use Rattle.desk.proofs.EndLaws.{ended_by_lem}
 use Rattle.desk.proofs.VerdictLaws.{kinds_are}
 use Rattle.desk.proofs.end.end_with.Goals as goal
 
-pub returns-then-fault-ne0 : goal.returns-then-fault-ne0
+pub returns-in_err-judge_cells : goal.returns-in_err-judge_cells
 unfolding counts_fault
-returns-then-fault-ne0 c =
-    let a = c.args in
-    refused_first _ _ _ (c.judge_cells-fault.ensures.value
-    ∙ ap (λ k. cells_fault k a.day.taken a.counts.now)
-    (kinds_are a.day.head a.log.now a.counts.now c.requires.0 c.requires.1)) c.if-fault-ne0.true
+returns-in_err-judge_cells c =
+    let a = c.args.closing.now in
+    let e : c.from_residual.result ≡ Err c.in_err-judge_cells.field-0.0 = search rules in
+    rw e
+    (keep_on _ _ _ _ (c.in_err-judge_cells.ensures.value
+    ∙ ap (λ k. checked (cells_fault k a.day.taken a.counts.now))
+    (kinds_are a.day.head a.log.now a.counts.now a.own a.good)))
 
-pub returns-in-Found : goal.returns-in-Found
-returns-in-Found c =
-    let a = c.args in
-    let h = c.requires in
-    let none = sym c.judge_cells-fault.ensures.value ∙ c.if-fault-ne0.false in
-    let judged = c.judge_cells-fault.ensures.places_after c.if-fault-ne0.false in
-    rw c.in-Found.is at
-    (ended_by_lem a.day a.log.now a.counts.now h.0 h.1 (λ j. omega (arith, c.type_inv.log j)) none
-    a.book.now a.out.now h.4
-    (rw judged at c.settle_day.ensures))
+pub returns-in_err-found : goal.returns-in_err-found
+returns-in_err-found c =
+    let a = c.args.closing.now in
+    let none = (accepted _ _ c.in_ok-judge_cells.ensures.value).0 in
+    let e : c.from_residual-in_err-found.result ≡ Err c.in_err-found.field-0.0 = search rules in
+    rw e
+    (ended_by_lem a.day a.log.now a.counts.now a.own a.good a.bytes none
+    c.args.book.now c.args.out.now c.requires.1
+    (rw c.in_ok-judge_cells.ensures.places_after at c.in_err-found.ensures))
 
-pub returns-in-Refused : goal.returns-in-Refused
-returns-in-Refused c =
-    let a = c.args in
-    let h = c.requires in
-    let none = sym c.judge_cells-fault.ensures.value ∙ c.if-fault-ne0.false in
-    let judged = c.judge_cells-fault.ensures.places_after c.if-fault-ne0.false in
-    rw c.in-Refused.is at
-    (ended_by_lem a.day a.log.now a.counts.now h.0 h.1 (λ j. omega (arith, c.type_inv.log j)) none
-    a.book.now a.out.now h.4
-    (rw judged at c.settle_day.ensures))
+pub returns : goal.returns
+returns c =
+    let a = c.args.closing.now in
+    let none = (accepted _ _ c.in_ok-judge_cells.ensures.value).0 in
+    ended_by_lem a.day a.log.now a.counts.now a.own a.good a.bytes none
+    c.args.book.now c.args.out.now c.requires.1
+    (rw c.in_ok-judge_cells.ensures.places_after at c.in_ok-found.ensures)

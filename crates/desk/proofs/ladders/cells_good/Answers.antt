@@ -1,31 +1,30 @@
-use Rattle.desk.specs.End.{cells_good}
-use Rattle.places.specs.Places.{cells}
-use Rattle.wire.proofs.BelowLaws.{every_none, every_next}
-use Rattle.wire.specs.Below.{every}
-use lib.ListN.{get_or}
-use lib.Dec.{leb}
-use mathlib.Core.Bool.{◌&&◌}
 use native.Mathlib.Omega.{arith}
-use mathlib.Core.Path.{◌≡◌, refl, sym, ap, ap₂, ◌∙◌}
 use borrow.Author.Rules.{rules}
+use borrow.Author.Tests.{tests}
+use mathlib.Core.Path.{◌≡◌, ap, ◌∙◌}
+use mathlib.Core.Bool.{true, false}
+use lib.Dec.{leb}
+use lib.ListN.{take, get_or, length}
+use lib.Seq.{length-take-le, get_or-take}
+use Prim.Native.Nat.{◌≤◌}
+use Rattle.std.proofs.lemmas.Iterator.{cases_from_all, YieldsList-from_slice}
+use Rattle.wire.specs.Below.{every}
+use Rattle.wire.proofs.BelowLaws.{every_cong}
+use Rattle.wire.proofs.ChainLaws.{every_list}
+use Rattle.desk.specs.End.{cells_good}
 use Rattle.desk.proofs.ladders.cells_good.Goals as goal
-
-pub loop-i-init : goal.loop-i-init
-loop-i-init c = (search rules, sym (every_none _))
-
-pub loop-i-preserved : goal.loop-i-preserved
-loop-i-preserved c =
-    let a = c.args in
-    let l = c.loop-i in (
-      search rules,
-      ap₂ (λ x y. x && y) l.invariant.1 refl ∙ every_next (λ j. leb (get_or a.counts.now j 0) a.taken)
-          l.i,
-    )
 
 pub returns : goal.returns
 unfolding cells_good
 returns c =
     let a = c.args in
-    let l = c.loop-i in
-    let e : l.i ≡ cells a.kinds = omega (arith, c.cells_in-i-end.ensures) in
-    l.invariant.1 ∙ ap (every (λ j. leb (get_or a.counts.now j 0) a.taken)) e
+    let n = c.cells_in.result in
+    let part = take n a.counts.now in
+    let within : n ≤ length a.counts.now = omega (arith, c.cells_in.ensures) in
+    every_list (λ x. leb x a.taken) part _
+    (cases_from_all _ _ _ (λ x. leb x a.taken ≡ true) (λ x. leb x a.taken ≡ false) c.all.ensures.ran
+    (YieldsList-from_slice part c.iter.ensures.rest) (λ x q k. search (rules, tests)) (λ x q k. search (rules, tests)))
+    ∙ ap (every (λ k. leb (get_or part k 0) a.taken)) (length-take-le n a.counts.now within)
+    ∙ every_cong (λ k. leb (get_or part k 0) a.taken) (λ k. leb (get_or a.counts.now k 0) a.taken) n
+    (λ k l. ap (λ x. leb x a.taken) (get_or-take n a.counts.now k 0 l))
+    ∙ ap (every (λ k. leb (get_or a.counts.now k 0) a.taken)) c.cells_in.ensures

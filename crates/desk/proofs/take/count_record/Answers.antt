@@ -1,26 +1,24 @@
-use mathlib.Core.Path.{refl, sym, ◌∙◌}
+use mathlib.Core.Path.{◌≡◌, ◌∙◌}
 use native.Mathlib.Omega.{arith}
-use Rattle.wire.proofs.AnswerLaws.{answer_refused, answer_done}
+use borrow.Author.Rules.{rules}
+use Rattle.std.specs.Prelude.{Err}
+use Rattle.wire.proofs.RefusalLaws.{pass, accept, accepted}
 use Rattle.counts.proofs.CellLaws.{plan_fits}
 use Rattle.desk.proofs.take.count_record.Goals as goal
 
-pub returns-then-fault-ne0 : goal.returns-then-fault-ne0
-returns-then-fault-ne0 c =
-    rw (← c.kinds_of.ensures) (record {
-      answer = answer_refused _ _ _ _ c.raise-fault.ensures.0 c.if-fault-ne0.true;
-      after = c.raise-fault.ensures.1;
-    })
+pub returns-in_err-raise : goal.returns-in_err-raise
+returns-in_err-raise c =
+    let e : c.from_residual.result ≡ Err c.in_err-raise.field-0.0 = search rules in
+    rw (← c.kinds_of.ensures)
+    (record { answer = e ∙ pass _ _ _ c.in_err-raise.ensures.answer; after = c.in_err-raise.ensures.counts })
 
 pub overflow_add-next : goal.overflow_add-next
-overflow_add-next c = omega (
-  arith,
-  (plan_fits _ _ _ _ (sym c.raise-fault.ensures.0
-      ∙ c.if-fault-ne0.false)).0,
-)
+overflow_add-next c = omega (arith, (plan_fits _ _ _ _ (accepted _ _ c.in_ok-raise.ensures.answer).0).0)
 
 pub returns : goal.returns
 returns c =
-    rw (← c.kinds_of.ensures) (record {
-      answer = answer_done _ _ _ (sym c.raise-fault.ensures.0 ∙ c.if-fault-ne0.false) refl;
-      after = c.raise-fault.ensures.1;
+    rw (← c.kinds_of.ensures)
+    (record {
+      answer = accept _ (accepted _ _ c.in_ok-raise.ensures.answer).0;
+      after = c.in_ok-raise.ensures.counts;
     })

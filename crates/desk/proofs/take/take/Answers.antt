@@ -1,32 +1,30 @@
-use mathlib.Core.Path.{refl, sym, ◌∙◌}
-use native.Mathlib.Omega.{arith}
-use lib.ListN.{length}
-use Rattle.wire.proofs.AnswerLaws.{refused, refused_first, then_by}
-use Rattle.counts.specs.Weigh.{plan_in, reasons_in}
-use Rattle.counts.proofs.WeighLaws.{weighed_no, weighed_yes}
-use Rattle.desk.specs.Take.{held_fault, day_fault, take_fault, day_weighed}
+use mathlib.Core.Path.{◌≡◌, refl, ap}
+use borrow.Author.Rules.{rules}
+use Rattle.std.specs.Prelude.{Err}
+use Rattle.wire.specs.declared.refusal.Refusal.TheVariants.{WrongState}
+use Rattle.wire.proofs.AnswerLaws.{then_by}
+use Rattle.wire.proofs.RefusalLaws.{refuse_all, keep_on, accepted}
+use Rattle.counts.specs.declared.weigh.Plan.{Plan}
+use Rattle.counts.specs.declared.weigh.Reasons.{Reasons}
+use Rattle.desk.specs.Take.{day_fault, take_fault, day_weighed}
 use Rattle.desk.proofs.HandedLaws.{held_head}
 use Rattle.desk.proofs.take.take.Goals as goal
 
 pub returns-in_default : goal.returns-in_default
 unfolding take_fault
-returns-in_default c = rw c.in_default.is (refused _ 10 refl (λ z. omega arith))
+returns-in_default c = rw c.in_default.is (refuse_all WrongState refl)
 
-pub returns-in-Refused : goal.returns-in-Refused
+pub returns-in_err-plan : goal.returns-in_err-plan
 unfolding take_fault day_fault day_weighed
-returns-in-Refused c =
-    let a = c.args in
-    let fault = held_fault c.in-Open.day a.log.now a.row.now (length a.counts.now) in
-    let j = weighed_no fault (plan_in a.log.now a.row.now) (reasons_in a.log.now a.row.now) _
-    (sym c.in-Refused.is ∙ c.weigh_day.ensures) in
-    rw c.in-Open.is (refused_first _ _ _ j.0 j.1)
+returns-in_err-plan c =
+    let e : c.from_residual.result ≡ Err c.in_err-plan.field-0.0 = search rules in
+    rw (c.in-Open.is, e) (keep_on _ _ _ _ c.in_err-plan.ensures)
 
-pub returns-in-Counts : goal.returns-in-Counts
+pub returns : goal.returns
 unfolding take_fault day_fault day_weighed
-returns-in-Counts c =
-    let a = c.args in
-    let fault = held_fault c.in-Open.day a.log.now a.row.now (length a.counts.now) in
-    let j = weighed_yes fault (plan_in a.log.now a.row.now) (reasons_in a.log.now a.row.now) _ _
-    (sym c.in-Counts.is ∙ c.weigh_day.ensures) in
+returns c =
+    let j = accepted _ _ c.in_ok-plan.ensures in
+    let plan = ap (λ (w : Plan × Reasons). w.0) j.1 in
+    let why = ap (λ (w : Plan × Reasons). w.1) j.1 in
     rw c.in-Open.is
-    (then_by _ _ j.0 (rw (← held_head c.in-Open.day _ _ _ j.0, ← j.1, ← j.2) c.count_record.ensures))
+    (then_by _ _ j.0 (rw (← held_head c.in-Open.day _ _ _ j.0, ← plan, ← why) c.count_record.ensures))

@@ -1,58 +1,38 @@
-use mathlib.Core.Path.{◌≡◌, refl, sym, ap₂, ◌∙◌}
-use mathlib.Core.List.{List}
-use Prim.Native.Nat.{ℕ}
-use native.Mathlib.Omega.{arith}
-use lib.ListN.{length}
-use Rattle.wire.proofs.AnswerLaws.{answer_refused, answer_done, answer_first, answer_then}
+use mathlib.Core.Path.{◌≡◌, refl, ap, ◌∙◌}
+use borrow.Author.Rules.{rules}
+use Rattle.std.specs.Prelude.{Ok, Err}
+use Rattle.wire.proofs.AnswerLaws.{answer_done, answer_then}
+use Rattle.wire.proofs.RefusalLaws.{refuse, pass, pass_on, accepted}
+use Rattle.wire.specs.declared.refusal.Refusal.TheVariants.{WrongState}
 use Rattle.counts.specs.declared.weigh.Plan.{Plan}
-use Rattle.counts.specs.declared.weigh.Weighed.{Weighed}
-use Rattle.counts.specs.declared.weigh.Weighed.TheVariants.{Counts}
 use Rattle.counts.specs.declared.weigh.Reasons.{Reasons}
-use Rattle.counts.specs.Weigh.{plan_in, reasons_in}
-use Rattle.counts.proofs.WeighLaws.{weighed_no, weighed_yes}
-use Rattle.desk.specs.declared.state.Day.{Day}
-use Rattle.desk.specs.Take.{held_fault, day_fault, take_fault, would_take, day_weighed}
+use Rattle.desk.specs.Take.{day_fault, take_fault, would_take, day_weighed}
 use Rattle.desk.proofs.take.would_take.Goals as goal
-
--- no refusal before the counts, and plan and clauses are the record's
-counts : (day : Day) (log row : List ℕ) (len : ℕ) (w : Weighed) (p : Plan) (why : Reasons) → w ≡ Counts p why
-    → w ≡ day_weighed day log row len
-    → (held_fault day log row len ≡ 0) × (p ≡ plan_in log row) × (why ≡ reasons_in log row)
-unfolding day_weighed
-counts day log row len w p why is e =
-    weighed_yes (held_fault day log row len) (plan_in log row) (reasons_in log row) _ _ (sym is ∙ e)
 
 pub returns-in_default : goal.returns-in_default
 unfolding would_take take_fault
-returns-in_default c = rw c.in_default.is (answer_refused _ _ 10 10 refl (λ z. omega arith))
+returns-in_default c = rw c.in_default.is (refuse WrongState _ refl)
 
-pub returns-in_default-weighed : goal.returns-in_default-weighed
+pub returns-in_err-plan : goal.returns-in_err-plan
 unfolding would_take take_fault day_fault day_weighed
-returns-in_default-weighed c =
-    let a = c.args in
-    let told = c.in_default-weighed.is in
-    let fault = held_fault c.in-Open.day a.log.now a.row.now (length a.counts.now) in
-    let j = weighed_no fault (plan_in a.log.now a.row.now) (reasons_in a.log.now a.row.now) _
-    (sym told ∙ c.weigh_day-weighed.ensures) in
-    rw c.in-Open.is (told ∙ answer_first _ _ _ _ _ j.0 j.1)
+returns-in_err-plan c =
+    let e : c.from_residual.result ≡ Err c.in_err-plan.field-0.0 = search rules in
+    rw c.in-Open.is (e ∙ pass_on _ _ _ _ c.in_err-plan.ensures)
 
-pub returns-then-fault-ne0 : goal.returns-then-fault-ne0
-unfolding would_take take_fault day_fault
-returns-then-fault-ne0 c =
-    let a = c.args in
-    let j = counts c.in-Open.day a.log.now a.row.now (length a.counts.now) _ _ _ c.in-Counts.is
-    c.weigh_day-weighed.ensures in
+pub returns-in_err-check_plan : goal.returns-in_err-check_plan
+unfolding would_take take_fault day_fault day_weighed
+returns-in_err-check_plan c =
+    let j = accepted _ _ c.in_ok-plan.ensures in
+    let plan = ap (λ (w : Plan × Reasons). w.0) j.1 in
+    let e : c.from_residual-in_err-check_plan.result ≡ Err c.in_err-check_plan.field-0.0 = search rules in
     rw c.in-Open.is
-    (answer_then _ _ _ _ j.0
-    (answer_refused _ _ _ _ (rw (c.kinds_of.ensures, j.1) at c.plan_fault-fault.ensures) c.if-fault-ne0.true))
+    (e ∙ answer_then _ _ _ _ j.0 (pass _ _ _ (rw (c.kinds_of.ensures, plan) at c.in_err-check_plan.ensures)))
 
 pub returns : goal.returns
-unfolding would_take take_fault day_fault
+unfolding would_take take_fault day_fault day_weighed
 returns c =
-    let a = c.args in
-    let j = counts c.in-Open.day a.log.now a.row.now (length a.counts.now) _ _ _ c.in-Counts.is
-    c.weigh_day-weighed.ensures in
+    let j = accepted _ _ c.in_ok-plan.ensures in
+    let plan = ap (λ (w : Plan × Reasons). w.0) j.1 in
     rw c.in-Open.is
     (answer_then _ _ _ _ j.0
-    (answer_done _ _ _ (sym (rw (c.kinds_of.ensures, j.1) at c.plan_fault-fault.ensures) ∙ c.if-fault-ne0.false)
-    (ap₂ Counts j.1 j.2)))
+    (answer_done _ _ _ (accepted _ _ (rw (c.kinds_of.ensures, plan) at c.in_ok-check_plan.ensures)).0 (ap Ok j.1)))

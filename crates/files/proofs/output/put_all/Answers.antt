@@ -7,9 +7,8 @@ use Rattle.files.proofs.output.put_all.Goals as goal
 
 pub loop-done-preserved : goal.loop-done-preserved
 loop-done-preserved g c =
-    let put = c.write_some-put in
-    let more = take-part-more c.loop-done.done put.result.count c.args.bytes.now in
+    let more = take-part-more c.loop-done.done c.in-Ok.count c.args.bytes.now in
     record {
       within = search rules;
-      added = subst (Appends _ _) more (Appends-trans _ _ _ _ _ c.loop-done.invariant.added put.ensures.bytes);
+      added = subst (Appends _ _) more (Appends-trans _ _ _ _ _ c.loop-done.invariant.added c.in-Ok.ensures.bytes);
     }

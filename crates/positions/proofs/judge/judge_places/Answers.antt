@@ -30,7 +30,8 @@ on_tables h log longs shorts t s e =
 pub returns : goal.returns
 returns c =
     let a = c.args in
-    on_tables a.h a.log.now a.longs.now a.shorts.now
-    c.text_of.ensures
-    c.add_sizes.ensures
-    c.judge_with.ensures
+    on_tables a.h a.log.now a.sums.now.longs a.sums.now.shorts c.text_of-text.ensures c.add_sizes.ensures
+    (c.fill_places.ensures
+    ∙ ap (λ f. places_in c.text_of-text.result (take (16 + 16 * a.h.contracts - 16) (drop 16 a.log.now)) f
+    a.sums.now.longs a.sums.now.shorts c.add_sizes.new.sizes)
+    c.fill_families.ensures)

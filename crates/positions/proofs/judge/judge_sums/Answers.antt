@@ -1,45 +1,33 @@
-use mathlib.Core.Path.{sym, ◌∙◌}
+use mathlib.Core.Path.{◌≡◌}
 use native.Mathlib.Omega.{arith}
-use Rattle.positions.proofs.JudgeLaws.{log_refused, book_refused, log_good, settled, long_length, short_length}
+use borrow.Author.Rules.{rules}
+use Rattle.std.specs.Prelude.{Err}
+use Rattle.wire.proofs.RefusalLaws.{accepted}
+use Rattle.positions.proofs.JudgeLaws.{log_refused, book_refused, log_good, settled}
 use Rattle.positions.proofs.judge.judge_sums.Goals as goal
 
-pub returns-then-fault-ne0 : goal.returns-then-fault-ne0
-returns-then-fault-ne0 c =
-    let a = c.args in
-    log_refused a.log.now a.book.now a.out.now _
-    c.read_log-fault.ensures.value c.if-fault-ne0.true
+pub returns-in_err-read_log : goal.returns-in_err-read_log
+returns-in_err-read_log c =
+    let e : c.from_residual.result ≡ Err c.in_err-read_log.field-0.0 = search rules in
+    rw e (log_refused c.args.log.now c.args.book.now c.args.out.now c.in_err-read_log.ensures.answer)
 
-pub returns-then-second-ne0 : goal.returns-then-second-ne0
-returns-then-second-ne0 c =
+pub returns-in_err-check_fits : goal.returns-in_err-check_fits
+returns-in_err-check_fits c =
     let a = c.args in
-    book_refused a.log.now a.book.now a.out.now _ c.header_of-h.ensures
-    (sym c.read_log-fault.ensures.value
-    ∙ c.if-fault-ne0.false) _ _ c.position_shape.ensures
-    c.fits_fault-second.ensures c.if-second-ne0.true
+    let e : c.from_residual-in_err-check_fits.result ≡ Err c.in_err-check_fits.field-0.0 = search rules in
+    rw e (book_refused a.log.now a.book.now a.out.now _ c.header_of-h.ensures
+    (accepted _ _ c.in_ok-read_log.ensures.answer).0 _ c.position_shape.ensures c.in_err-check_fits.ensures)
 
 pub settle_log-requires : goal.settle_log-requires
 settle_log-requires c =
-    let s = c.args.log.now in
-    let fine = sym c.read_log-fault.ensures.value ∙ c.if-fault-ne0.false in
-    let sums = c.read_log-fault.ensures.sums_after c.if-fault-ne0.false in
-    let is = c.header_of-h.ensures in (
-      log_good s c.args.book.now
-          c.args.out.now _ is fine,
-      long_length s sums.0,
-      short_length s sums.1,
-    )
+    log_good c.args.log.now c.args.book.now c.args.out.now _ c.header_of-h.ensures
+    (accepted _ _ c.in_ok-read_log.ensures.answer).0
 
 pub returns : goal.returns
 returns c =
     let a = c.args in
-    let left = c.if-fault-ne0.false in
-    let read = c.read_log-fault.ensures in
-    settled a.log.now a.book.now a.out.now _ c.header_of-h.ensures (sym read.value ∙ left)
-    (λ j. omega (
-      arith,
-      c.type_inv.log j,
-    )) _ c.position_shape.ensures
-    (sym c.fits_fault-second.ensures
-    ∙ c.if-second-ne0.false) (read.sums_after left).0
-    (read.sums_after left).1
-    c.settle_log.ensures
+    let read = c.in_ok-read_log.ensures in
+    let fine = (accepted _ _ read.answer).0 in
+    let sums = read.sums_after fine in
+    settled a.log.now a.book.now a.out.now _ c.header_of-h.ensures fine (λ j. omega (arith, c.type_inv.log j)) _
+    c.position_shape.ensures (accepted _ _ c.in_ok-check_fits.ensures).0 sums.0 sums.1 c.settle_log.ensures

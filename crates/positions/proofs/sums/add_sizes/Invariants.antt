@@ -1,8 +1,7 @@
 use mathlib.Core.Path.{◌≡◌}
 use mathlib.Core.List.{List}
-use Prim.Native.Nat.{ℕ, ◌-◌, ◌≤◌}
+use Prim.Native.Nat.{ℕ}
 use lib.ListN.{length}
-use Rattle.tables.specs.Entries.{entries}
 use Rattle.positions.specs.Way.{summed}
 use Rattle.tables.specs.Accounts.{account_at}
 use Rattle.positions.proofs.sums.add_sizes.Given as goal
@@ -14,9 +13,5 @@ groups_of accounts k = (account_at accounts k).group
 abbrev pub sizes_to : List ℕ → ℕ → List ℕ
 sizes_to accounts = summed 129 (groups_of accounts) (λ k. 1)
 
-abbrev pub invariant-loop-k : goal.invariant-loop-k
-invariant-loop-k l = (l.k ≤ entries l.accounts) × (length l.sizes ≡ length l.initial.sizes)
-    × (l.sizes ≡ sizes_to l.accounts l.k)
-
-abbrev pub decreases-loop-k : goal.decreases-loop-k
-decreases-loop-k l = entries l.accounts - l.k
+abbrev pub invariant-loop-entry : goal.invariant-loop-entry
+invariant-loop-entry l = (length l.sizes ≡ length l.initial.sizes) × (l.sizes ≡ sizes_to l.accounts l.entry-index)

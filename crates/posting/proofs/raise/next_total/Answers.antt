@@ -1,9 +1,9 @@
-use mathlib.Core.Path.{ap₂}
+use mathlib.Core.Path.{ap₂, ◌∙◌}
 use Prim.Native.Nat.{◌+◌, ◌%◌}
-use Rattle.wire.proofs.ChoiceLaws.{pick_yes, pick_no}
+use Rattle.wire.proofs.ChoiceLaws.{pick_yes, pick_no, bit_of}
 use Rattle.posting.specs.Raise.{next_total}
 use Rattle.posting.proofs.raise.next_total.Goals as goal
-use Rattle.posting.proofs.raise.next_total.Goals.{then-later, else-later, then-hit, else-hit}
+use Rattle.posting.proofs.raise.next_total.Goals.{then-later, else-later}
 
 pub returns : goal.returns
 unfolding next_total
@@ -13,7 +13,4 @@ returns c =
       | then-later w ↦ pick_yes _ _ _ _ w.if-later.true w.start-is
       | else-later w ↦ pick_no _ _ _ _ w.if-later.false w.start-is
     ])
-    (elim c.if-hit.branch [
-      | then-hit w ↦ pick_yes _ _ _ _ w.if-hit.true w.one-is
-      | else-hit w ↦ pick_no _ _ _ _ w.if-hit.false w.one-is
-    ])
+    (c.from.ensures ∙ bit_of c.args.hit)

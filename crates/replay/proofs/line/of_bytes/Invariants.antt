@@ -2,5 +2,5 @@
 use Rattle.std.proofs.Common.{◌<◌}
 use Rattle.replay.proofs.line.of_bytes.Given as goal
 
-abbrev pub invariant-loop-i : goal.invariant-loop-i
-invariant-loop-i l = l.h < 4294967291
+abbrev pub invariant-loop-x : goal.invariant-loop-x
+invariant-loop-x l = l.h < 4294967291

@@ -5,5 +5,5 @@ use Rattle.sheet.proofs.request.code_at.Goals as goal
 
 pub overflow_cast-result : goal.overflow_cast-result
 overflow_cast-result c =
-    let digit : c.number_in.result ≤ 9 = one_digit _ _ c.number_in.ensures (omega arith) in
+    let digit : c.number_in-digit.result ≤ 9 = one_digit _ _ c.number_in-digit.ensures (omega arith) in
     omega (arith, digit)

@@ -1,33 +1,22 @@
-use mathlib.Core.Path.{◌≡◌, ◌∙◌, ap, ap₂}
-use mathlib.Core.Bool.{◌&&◌, not}
-use native.Mathlib.Omega.{arith}
-use borrow.Author.Rules.{rules}
+use Rattle.std.proofs.Common.{◌∙◌, ◌&&◌, Bool, ℕ, List, rules, ap}
 use lib.Dec.{eqb}
-use Rattle.wire.specs.Below.{every, some}
-use Rattle.wire.proofs.BelowLaws.{every_next}
-use Rattle.tables.specs.Entries.{entries}
-use Rattle.tables.specs.Accounts.{has_member}
-use Rattle.tables.proofs.accounts.has_member.Invariants.{memberAt}
+use Rattle.std.proofs.lemmas.Iterator.{YieldsList-from_slice}
+use Rattle.std.proofs.lemmas.Iterator.Search.{any_from_yields_List}
+use Rattle.tables.specs.Accounts.{account_at, has_member}
+use Rattle.tables.proofs.EntryLaws.{account_here, some_in}
 use Rattle.tables.proofs.accounts.has_member.Goals as goal
 
-pub loop-k-init : goal.loop-k-init
-unfolding every
-loop-k-init c = search rules
-
-pub loop-k-preserved : goal.loop-k-preserved
-loop-k-preserved c =
-    let a = c.args in
-    let s = a.part.now in
-    let l = c.loop-k in (
-      omega arith,
-      ap₂ (λ x e. x && not (eqb e.group a.group && eqb e.kind 2)) l.invariant.1
-          c.account_at-e.ensures ∙ every_next (λ j. not (memberAt s a.group j)) l.k,
-    )
+abbrev member : ℕ → List ℕ → Bool
+member group e = eqb (account_at e 0).group group && eqb (account_at e 0).kind 2
 
 pub returns : goal.returns
-unfolding has_member some
+unfolding has_member
 returns c =
-    let a = c.args in
-    let l = c.loop-k in
-    let e : l.k ≡ entries a.part.now = omega arith in
-    ap not (l.invariant.1 ∙ ap (every (λ j. not (memberAt a.part.now a.group j))) e)
+    let group = c.args.group in
+    let s = c.args.part.now in
+    let es = c.as_chunks.result.0.now in
+    any_from_yields_List (member group) _ _ c.any.result c.any.ensures.ran (YieldsList-from_slice es cc)
+    (λ x b q k. search rules)
+    ∙ some_in (member group) (λ k. eqb (account_at s k).group group && eqb (account_at s k).kind 2) es _
+    c.as_chunks.ensures.front_len
+    (λ k x h. ap (λ e. eqb e.group group && eqb e.kind 2) (account_here s es k x c.as_chunks.ensures.front h))

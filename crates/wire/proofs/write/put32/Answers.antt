@@ -1,13 +1,12 @@
-use native.Mathlib.Omega.{arith}
-use Rattle.wire.proofs.BufferLaws.{fitting, too_long}
+use Rattle.std.proofs.Common.{◌≡◌, ◌∙◌, ap, ◌/◌, arith}
+use Rattle.wire.specs.Bytes.{bytes}
+use Rattle.wire.specs.Buffers.{put_in}
 use Rattle.wire.proofs.write.put32.Goals as goal
 
-pub returns-then-s-lt4 : goal.returns-then-s-lt4
-returns-then-s-lt4 c = let a = c.args in too_long 4 a.s.now a.at a.v (omega arith)
-
-pub returns-then-s-at : goal.returns-then-s-at
-returns-then-s-at c = let a = c.args in too_long 4 a.s.now a.at a.v (omega arith)
-
 pub returns : goal.returns
-returns c = let a = c.args in
-    fitting 4 a.s.now _ a.at a.v (omega arith) c.store32.ensures
+unfolding bytes
+returns c =
+    let v = c.args.v in
+    let third : v / 256 / 256 ≡ v / 65536 = omega arith in
+    let fourth : v / 256 / 256 / 256 ≡ v / 16777216 = omega arith in
+    rw (fourth, third) (c.put_bytes.ensures ∙ ap (put_in c.args.s.now c.args.at) c.to_le_bytes.ensures)

@@ -3,5 +3,5 @@ use Rattle.std.proofs.Common.{◌≡◌, ◌≤◌, true, length}
 use Rattle.words.specs.Number.{digits, worth}
 use Rattle.words.proofs.number.number_in.Given as goal
 
-abbrev pub invariant-loop-i : goal.invariant-loop-i
-invariant-loop-i l = (length l.word ≤ 9) × (digits l.word l.i ≡ true) × (l.n ≡ worth l.word l.i)
+abbrev pub invariant-loop-byte : goal.invariant-loop-byte
+invariant-loop-byte l = (length l.word ≤ 9) × (digits l.word l.byte-index ≡ true) × (l.n ≡ worth l.word l.byte-index)

@@ -1,0 +1,69 @@
+-- Laws of a buffer that is filled place by place: what a turn leaves, and what the whole then is. Assumes nothing.
+use mathlib.Core.Path.{◌≡◌, refl, sym, ap, ◌∙◌}
+use mathlib.Core.Logic.{⊎_elim}
+use mathlib.Core.List.{List, [], ◌∷◌}
+use Prim.Native.Nat.{ℕ, ◌+◌, ◌*◌, ◌/◌, ◌%◌, ◌<◌, ◌≤◌}
+use native.Mathlib.Nat.{eq-or-lt_of_le}
+use native.Mathlib.Omega.{arith}
+use lib.ListN.{length, get_or}
+use lib.Seq.{ext_get_or}
+use Rattle.wire.specs.Bytes.{le, bytes}
+use Rattle.wire.specs.Buffers.{put_in, rows}
+use Rattle.wire.proofs.ByteLaws.{bytes_length}
+use Rattle.wire.proofs.BufferLaws.{put_in_lem, le_put, le_put_before, ones_at, ones_length, rows_length, rows_at}
+
+-- a buffer with a known byte at each place
+pub bytes_are : (f : ℕ → ℕ) (s : List ℕ) (n : ℕ) → length s ≡ n → ((k : ℕ) → k < n → get_or s k 0 ≡ f k)
+    → s ≡ rows (λ k. f k ∷ []) n
+bytes_are f s n l h =
+    ext_get_or 0 s (rows (λ k. f k ∷ []) n) (l ∙ sym (ones_length f n))
+    (λ i b. let m : i < n = omega arith in h i m ∙ sym (ones_at f n i m))
+
+-- ---- 16 bits written at place k of them
+module _ (s r : List ℕ) (k v : ℕ) (fits : 2 * k + 2 ≤ length s) (e : r ≡ put_in s (2 * k) (bytes 2 v)) where
+  pub pair_kept : (j : ℕ) → j < k → le 2 r (2 * j) ≡ le 2 s (2 * j)
+  pair_kept j h =
+      ap (λ (x : List ℕ). le 2 x (2 * j)) (e ∙ put_in_lem s (2 * k) (bytes 2 v) room)
+      ∙ le_put_before s (2 * k) (bytes 2 v) room 2 (2 * j) (omega arith)
+    where
+      room : 2 * k + length (bytes 2 v) ≤ length s
+      room = omega (arith, bytes_length 2 v)
+
+  pub pair_put : v < 65536 → le 2 r (2 * k) ≡ v
+  pair_put small =
+      ap (λ (x : List ℕ). le 2 x (2 * k)) (e ∙ put_in_lem s (2 * k) (bytes 2 v) (omega (arith, bytes_length 2 v)))
+      ∙ le_put 2 s (2 * k) v fits small
+
+-- the bytes of a number that is read
+pair_bytes : (s : List ℕ) (i v : ℕ) → get_or s i 0 < 256 → get_or s (i + 1) 0 < 256 → le 2 s i ≡ v
+    → (get_or s i 0 ≡ v % 256) × (get_or s (i + 1) 0 ≡ v / 256 % 256)
+unfolding le
+pair_bytes s i v a b e = (omega arith, omega arith)
+
+-- a buffer with known 16 bits at each place
+pub pairs_are : (f : ℕ → ℕ) (s : List ℕ) (n : ℕ) → length s ≡ 2 * n → ((i : ℕ) → get_or s i 0 < 256)
+    → ((k : ℕ) → k < n → le 2 s (2 * k) ≡ f k) → s ≡ rows (λ k. bytes 2 (f k)) n
+unfolding bytes
+pairs_are f s n l small h =
+    ext_get_or 0 s (rows row n) (l ∙ sym (rows_length row 2 (λ k. refl) n)) at
+  where
+    row : ℕ → List ℕ
+    row k = bytes 2 (f k)
+
+    low : (k : ℕ) → k < n → get_or s (2 * k + 0) 0 ≡ get_or (rows row n) (2 * k + 0) 0
+    low k m =
+        let z : 2 * k + 0 ≡ 2 * k = omega arith in
+        ap (λ (i : ℕ). get_or s i 0) z ∙ (pair_bytes s (2 * k) (f k) (small _) (small _) (h k m)).0
+        ∙ sym (rows_at row 2 (λ k. refl) n k 0 m (omega arith))
+
+    high : (k : ℕ) → k < n → get_or s (2 * k + 1) 0 ≡ get_or (rows row n) (2 * k + 1) 0
+    high k m =
+        (pair_bytes s (2 * k) (f k) (small _) (small _) (h k m)).1
+        ∙ sym (rows_at row 2 (λ k. refl) n k 1 m (omega arith))
+
+    at : (i : ℕ) → i < length s → get_or s i 0 ≡ get_or (rows row n) i 0
+    at i b =
+        ⊎_elim
+        (λ (q : i % 2 ≡ 1). let e : i ≡ 2 * (i / 2) + 1 = omega arith in rw e (high (i / 2) (omega arith)))
+        (λ (q : i % 2 < 1). let e : i ≡ 2 * (i / 2) + 0 = omega arith in rw e (low (i / 2) (omega arith)))
+        (eq-or-lt_of_le (omega arith))

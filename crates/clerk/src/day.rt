@@ -21,7 +21,8 @@ fn fill_from_input(rt: &HostRuntime, buf: &mut [u8]) -> Got
     office::input::fill_from_input(rt, b"clerk", buf)
 }
 
-// Takes the whole records of a piece, up to an end record: the state after them, and the bytes from there on.
+// Takes the whole records of a piece, up to an end record: the state after them, and the bytes from there on. By
+// `while`, and no `chunks_exact`, since it hands out the bytes that are left where the end record begins.
 fn take_rows<'a>(
     start: State,
     log: &[u8],

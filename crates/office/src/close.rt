@@ -13,6 +13,7 @@ use words::line::Line;
 const NAME: usize = 64;
 
 // A day that was judged: its log, the book before it and after it, and room for findings, of which so many were found.
+// The number stands beside the room, since a caller's may be more than the room has: then all of the room is printed.
 #[derive(Clone, Copy)]
 pub struct Day<'a> {
     pub log: &'a [u8],

@@ -56,7 +56,8 @@ pub(crate) fn limits_good(part: &[u8]) -> bool
     good
 }
 
-// The place of a contract id, or the number of entries where it is not there.
+// The place of a contract id, or the number of entries where it is not there: no Option, as `limit_place` of specs is
+// that number.
 pub(crate) fn limit_place(part: &[u8], id: u16) -> usize
     ensures { result ≡ limit_place (limited_at part.now) (limit_count part.now) id }
 {

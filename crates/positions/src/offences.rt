@@ -70,6 +70,7 @@ impl Judging<'_> {
     }
 
     // Goes up the contracts of the ladder's family, and stops at the first on which its group is over the limit.
+    // Where there is none it is the number of contracts, as `first` of specs has it: the byte that is kept.
     fn first_over(&self, ladder: usize) -> usize
         requires { ladder < ladders One }
         ensures { (result ≡ first (over_by self.now ladder) (length self.now.fams.now)) ×
@@ -79,7 +80,7 @@ impl Judging<'_> {
         (0..n).find(|c| self.is_over_at(ladder, *c)).unwrap_or(n)
     }
 
-    // The ladder's lowest place; a group of fewer than two accounts has none.
+    // The ladder's lowest place; a group of fewer than two accounts has none, told by the number of contracts too.
     fn place_at(&self, ladder: usize) -> usize
         requires { ladder < ladders One }
         ensures { (result ≡ place_by self.now ladder) × (result ≤ length self.now.fams.now) }

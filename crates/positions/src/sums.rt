@@ -14,7 +14,8 @@ use rules::kinds::Kinds;
 use tables::accounts::find_account;
 use wire::read::get8;
 
-// A sum for each cell, long and short.
+// A sum for each cell, long and short: two arrays, and none of pairs, as `long_in` and `short_in` of specs/Way are a
+// list each.
 #[derive(Drop)]
 pub(crate) struct Sums {
     pub(crate) longs: [u64; 4096],

@@ -112,7 +112,7 @@ fn run(rt: &HostRuntime, log: &mut [u8], times: u32) {
     }
 }
 
-// How often to judge: a few times where nothing is said, as the gate runs it under an emulator.
+// How often to judge: a few times where nothing is said, as the gate runs it. 0, as `number_in` has it, is no number.
 fn times_asked(rt: &HostRuntime) -> u32 {
     if count_words(rt) < 2 {
         return 3;

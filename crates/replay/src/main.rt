@@ -38,7 +38,7 @@ fn step(rt: &HostRuntime, one: &[u8], setup: &mut Setup) -> Result<(), Stop> {
     Ok(())
 }
 
-// Each step in turn, on what those before it set up.
+// Each step in turn, on what those before it set up. By `while`, since how long a step is stands in its own bytes.
 fn steps(rt: &HostRuntime, script: &[u8], setup: &mut Setup) -> Result<(), Stop> {
     let mut rest = script;
     while !rest.is_empty() {

@@ -22,7 +22,8 @@ pub(crate) fn bytes_from(s: &[u8], from: usize) -> &[u8] {
 }
 
 // The bytes that the step at the start of `rest` takes by its letter and its number of bytes; none for an unknown
-// letter.
+// letter. The matches on letters are the script's grammar, and every letter has its arm: a table of steps would say no
+// more.
 fn wanted(rest: &[u8]) -> Option<usize>
     ensures { IfSome result (λ size. 0 < size) }
 {

@@ -2,6 +2,7 @@
 use words::asked::{count_words, word_at};
 use words::number::number_in;
 
+// No Option of a number: all that were spared is a choice too, and not the lack of one.
 #[derive(Clone, Copy, PartialEq, Eq)]
 pub(crate) enum Asked {
     // Each that was spared.

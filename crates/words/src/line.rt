@@ -49,6 +49,7 @@ impl<const N: usize> Line<N> {
     pub fn add_text(&mut self, text: &[u8])
         ensures { self.new ≡ take N (self.old ++ text.now) }
     {
+        // Looked at once, so that the proof knows before the loop that the end is within.
         let _ = &self.end;
         for x in text {
             self.add_byte(*x);

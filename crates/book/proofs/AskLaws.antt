@@ -1,28 +1,28 @@
 -- What a question that is not refused asks for. Assumes nothing.
-use mathlib.Core.Path.{◌≡◌, ap, ap₂, ◌∙◌}
+use mathlib.Core.Path.{◌≡◌}
 use mathlib.Core.Bool.{true, not, ◌&&◌}
 use mathlib.Core.List.{List}
-use Prim.Native.Nat.{ℕ, ◌+◌, ◌≤◌}
+use Prim.Native.Nat.{ℕ, ◌+◌, ◌<◌, ◌≤◌}
 use native.Mathlib.Omega.{arith}
 use borrow.Author.Tests.{leb-true, ltb-true, not-false}
 use lib.Dec.{leb, ltb}
 use Rattle.std.specs.Prelude.{Ok}
+use Rattle.wire.proofs.ChosenLaws.{chosen}
 use Rattle.wire.specs.Choice.{within}
+use Rattle.wire.specs.Outcomes.{checked}
 use Rattle.wire.proofs.ChoiceLaws.{pick_zero, pick_le, and_left, and_right, bounds}
-use Rattle.wire.proofs.AnswerLaws.{answer_done}
+use Rattle.wire.proofs.RefusalLaws.{accepted}
 use Rattle.rules.specs.declared.kinds.Kinds.{Kinds}
 use Rattle.rules.specs.Kinds.{kinds_in, first_kind}
-use Rattle.rules.specs.Ladders.{rung}
+use Rattle.rules.proofs.KindLaws.{few, first_low}
+use Rattle.places.proofs.LadderLaws.{few_times, ladder_few}
 use Rattle.book.specs.declared.shape.Shape.{Shape}
-use Rattle.book.specs.declared.ask.Asked.{Asked}
 use Rattle.places.specs.Places.{HasLadder, ladder_of}
-use Rattle.book.specs.Layout.{total_at}
 use Rattle.book.specs.Sound.{sound_as}
-use Rattle.book.specs.Ask.{in_range, ask_fault_as, ask_answer_as}
+use Rattle.book.specs.Ask.{in_range, ask_fault_as}
 
--- a total and its rung
-abbrev pub told : ℕ → ℕ → Asked
-told total step = record { total = total; rung = step }
+-- how many kinds there are, and how many ladders
+pub ruleset few_kinds = (few, first_low, few_times)
 
 pub in_range_lem : (k : Kinds) (group kind family : ℕ) → in_range k group kind family ≡ true
     → HasLadder k group kind family
@@ -61,12 +61,13 @@ unfolding ask_fault_as
 ask_most shape b group kind family =
     pick_le _ 17 _ 22 (omega arith) (pick_le _ 21 0 22 (omega arith) (omega arith))
 
--- what the calls of `ask_as` gave: no fault, the ladder, its total and the total's rung
-pub asked : (shape : Shape) (b : List ℕ) (group kind family : ℕ) {ladder total step : ℕ}
-    → ask_fault_as shape b group kind family ≡ 0 → ladder ≡ ladder_of shape.kinds group kind family
-    → total ≡ total_at b ladder → step ≡ rung total
-    → Ok (told total step) ≡ ask_answer_as shape b group kind family
-unfolding ask_answer_as
-asked shape b group kind family none l t s =
-    let is = t ∙ ap (total_at b) l in
-    answer_done _ _ _ none (ap Ok (ap₂ told is (s ∙ ap rung is)))
+-- a ladder that is asked for is one of few
+pub ladder_asked : (shape : Shape) (b : List ℕ) (group kind family ladder : ℕ)
+    → Ok tt ≡ checked (ask_fault_as shape b group kind family) → ladder ≡ ladder_of shape.kinds group kind family
+    → ladder < 8192
+ladder_asked shape b group kind family ladder e is =
+    let l = ladder_few _ _ _ _ (asking shape b group kind family (accepted _ _ e).0).there in
+    omega (arith, l, is)
+
+-- what `ask_as` knows once its check has passed
+pub ruleset asks = (accepted, asking, ladder_asked, chosen)

@@ -1,5 +1,5 @@
 -- A book that is written and read again; when it is sound, and what a sound book is. Assumes nothing.
-use mathlib.Core.Path.{◌≡◌, refl, sym, ap, ap₂, ◌∙◌}
+use mathlib.Core.Path.{◌≡◌, refl, ap, ap₂, ◌∙◌}
 use mathlib.Core.Logic.{◌⊎◌, inl, inr}
 use mathlib.Core.Bool.{Bool, true, false, ◌&&◌, ◌||◌}
 use mathlib.Core.List.{List, ◌++◌}
@@ -25,7 +25,6 @@ use Rattle.places.specs.Places.{ladders, book_size}
 use Rattle.book.specs.Shape.{day_shape, rulebook_of, shape_of}
 use Rattle.book.specs.Layout.{head_of, book_as, book_of, last_date, total_at}
 use Rattle.book.specs.Sound.{mark_good, head_good, most_of, totals_good, sound_as, sound}
-use Rattle.book.proofs.SoundLaws.{right_head}
 
 pub head_length : (letter rulebook date : ℕ) → length (head_of letter rulebook date) ≡ 16
 unfolding head_of bytes
@@ -52,6 +51,12 @@ dated_cases date e = go (eqb date 0) refl e
 pub most_le : (rulebook day l : ℕ) → most_of rulebook day l ≤ day
 unfolding most_of
 most_le rulebook day l = pick_le _ 0 day day zero-le (omega arith)
+
+-- after the length and the head, the totals decide
+right_head : (shape : Shape) (b : List ℕ) → length b ≡ book_size shape.kinds → head_good shape.letter b ≡ true
+    → totals_good shape.kinds b (rulebook_of b) (day_number (last_date b)) ≡ true → sound_as shape b ≡ true
+unfolding sound_as
+right_head shape b l e t = rw (eq-eqb (length b) (book_size shape.kinds) l, e) t
 
 -- ---- a book that is written
 module _ (shape : Shape) (rulebook date : ℕ) (total : ℕ → ℕ) where
@@ -126,21 +131,15 @@ module _ (shape : Shape) (rulebook date : ℕ) (total : ℕ → ℕ) where
       → ((l : ℕ) → l < ladders shape.kinds → total l ≤ most_of rulebook (day_number date) l)
       → sound_as shape (book_as shape rulebook date total) ≡ true
   sound_of_book known day h most =
-      sym
-      (right_head shape (book_as shape rulebook date total) true book_length (head_of_book known day h)
-      (sym
+      right_head shape (book_as shape rulebook date total) book_length (head_of_book known day h)
       (ap₂ (totals_good shape.kinds (book_as shape rulebook date total)) rulebook_of_book
       (ap day_number (date_of_book h))
-      ∙ totals_of_book (day_number date) (number_most date) most)))
+      ∙ totals_of_book (day_number date) (number_most date) most)
 
 -- ---- the book of a rulebook's offences
 pub day_kinds : (rulebook : ℕ) → (day_shape rulebook).kinds ≡ kinds_of rulebook
 unfolding day_shape
 day_kinds rulebook = refl
-
-pub day_letter : (rulebook : ℕ) → (day_shape rulebook).letter ≡ 0x42
-unfolding day_shape
-day_letter rulebook = refl
 
 module _ (rulebook date : ℕ) (total : ℕ → ℕ) where
   pub shape_of_book : shape_of (book_of rulebook date total) ≡ day_shape rulebook
@@ -189,10 +188,3 @@ sound_facts shape b e =
           (every_at (λ k. leb (total_at b k) (most_of (rulebook_of b) (day_number (last_date b)) k))
           (ladders shape.kinds) l (and_right (n && top) all e) h);
     }
-
--- no total of a sound book is above 366
-pub sound_most : (shape : Shape) (b : List ℕ) → SoundBook shape b
-    → (l : ℕ) → l < ladders shape.kinds → total_at b l ≤ 366
-sound_most shape b s l h =
-    le_trans (s.totals l h)
-    (le_trans (most_le (rulebook_of b) (day_number (last_date b)) l) (number_most (last_date b)))

@@ -1,4 +1,3 @@
-pub mod SoundLaws
 pub mod BookLaws
 pub mod FitsLaws
 pub mod AskLaws

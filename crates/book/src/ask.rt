@@ -13,10 +13,13 @@ use wire::refusal::Refusal;
 #[derive(Clone, Copy, Debug, PartialEq, Eq)]
 pub struct Asked {
     pub total: u16,
-    // 0 for total 0.
+    // 0 for total 0. No Option: `ask_answer_as` of specs/Ask gives the number `rung` of rules, which is 0 there.
     pub rung: u8,
 }
 
+// Group, kind and family stay three numbers: `ask_as` is handed three, and `in_range`, `ask_fault_as` and `ladder_of`
+// of specs take three.
+#[tactic(auto, using(crate::proofs::AskLaws::few_kinds), unfolding(crate::specs::Ask::in_range))]
 fn in_range(kinds: Kinds, group: u64, kind: u64, family: u64) -> bool
     ensures { result ≡ in_range kinds group kind family }
 {
@@ -25,6 +28,7 @@ fn in_range(kinds: Kinds, group: u64, kind: u64, family: u64) -> bool
     ((1 <= group) & (group <= 128)) & ((first <= kind) & (kind < after)) & (family <= 15)
 }
 
+#[tactic(auto, using(wire::proofs::ChosenLaws::chosen), unfolding(crate::specs::Ask::ask_fault_as))]
 fn check_asked(shape: Shape, book: &[u8], group: u64, kind: u64, family: u64) -> Result<(), Refusal>
     ensures { result ≡ checked (ask_fault_as shape book.now group kind family) }
 {
@@ -37,6 +41,7 @@ fn check_asked(shape: Shape, book: &[u8], group: u64, kind: u64, family: u64) ->
     Ok(())
 }
 
+#[tactic(auto, using(crate::proofs::AskLaws::few_kinds))]
 fn ladder_of(kinds: Kinds, group: u64, kind: u64, family: u64) -> usize
     requires { HasLadder kinds group kind family }
     ensures { result ≡ ladder_of kinds group kind family }
@@ -46,6 +51,7 @@ fn ladder_of(kinds: Kinds, group: u64, kind: u64, family: u64) -> usize
 }
 
 // Asks a book of a shape. Group, kind and family come in 64 bits: 257 is refused and never read as 1.
+#[tactic(auto, using(crate::proofs::AskLaws::asks), unfolding(crate::specs::Ask::ask_answer_as))]
 pub fn ask_as(
     shape: Shape,
     book: &[u8],

@@ -14,10 +14,11 @@ use wire::read::{get8, get16, get32};
 pub fn is_marked(letter: u8, b: &[u8]) -> bool
     ensures { result ≡ mark_good letter b.now }
 {
-    (get8(b, 0) == MARK[0]) & (get8(b, 1) == MARK[1]) & (get8(b, 2) == letter)
+    b.starts_with(&MARK) & (get8(b, 2) == letter)
 }
 
 // Mark, rulebook, version, the zero bytes, and a last date that is 0 or a real day.
+#[tactic(auto, unfolding(crate::specs::Sound::head_good))]
 fn head_good(letter: u8, b: &[u8]) -> bool
     ensures { result ≡ head_good letter b.now }
 {
@@ -31,6 +32,7 @@ fn head_good(letter: u8, b: &[u8]) -> bool
 }
 
 // The most that the total at a ladder may be, where the day number of the last date is `day`.
+#[tactic(auto, unfolding(crate::specs::Sound::most_of, wire::specs::Choice::pick))]
 fn most_of(rulebook: u8, day: u32, ladder: usize) -> u32
     ensures { result ≡ most_of rulebook day ladder }
 {
@@ -48,6 +50,7 @@ fn totals_good(kinds: Kinds, b: &[u8], rulebook: u8, day: u32) -> bool
 }
 
 // Whether it is a sound book of a shape.
+#[tactic(auto, unfolding(crate::specs::Sound::sound_as))]
 pub fn is_sound_as(shape: Shape, b: &[u8]) -> bool
     ensures { result ≡ sound_as shape b.now }
 {
@@ -75,7 +78,8 @@ pub fn shape_of(b: &[u8]) -> Shape
     day_shape(rulebook_of(b) as u64)
 }
 
-// The date of the last day in a book, 0 when none.
+// The date of the last day in a book, 0 when none. No Option: 0 is what the book has there, and a day that is not later
+// is then found by one comparison, as `fits_fault` of specs/Fits has it.
 pub fn last_date(b: &[u8]) -> u32
     ensures { result ≡ last_date b.now }
 {

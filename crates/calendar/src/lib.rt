@@ -46,7 +46,7 @@ fn days_in(y: u32, m: u32) -> u32
     requires { m ≤ 12 }
     ensures { result ≡ days_in y m }
 {
-    // A chain's sum would owe its bound over the list of mapped months, where the loop keeps it at hand: no plainer.
+    // A loop: a chain's `sum` asks beforehand that all months together fit, where the loop shows it month by month.
     let mut n = 0;
     for k in 0..m {
         n += month_days(y, k + 1);

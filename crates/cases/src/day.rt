@@ -30,7 +30,7 @@ impl Lent {
     }
 
     pub(crate) fn fresh(&mut self, rulebook: u8) {
-        let _ = desk::books::fresh(&mut self.book, rulebook as u64);
+        let _ = desk::books::fresh(&mut self.book, u64::from(rulebook));
     }
 
     // A book of rulebook 1 with a last date, in which group 3 has a total for kind 1 family 0.

@@ -5,7 +5,8 @@ use crate::say;
 use std::fmt;
 use wire::read::{get8, get16, get32};
 
-// A finding's eight bytes.
+// A finding's eight bytes. office and words say the same for the clerk; the cases stand on neither, and test by other
+// code.
 #[derive(Drop)]
 struct Finding<'a>(&'a [u8]);
 

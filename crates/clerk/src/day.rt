@@ -57,7 +57,8 @@ fn is_followed(rt: &HostRuntime, size: usize, left: usize, piece: Got) -> bool {
 }
 
 // Reads the records piece by piece, as the log is never held whole, and answers the number of findings. Bytes after
-// the end record are a refusal only where the end itself is accepted.
+// the end record are a refusal only where the end itself is accepted. Log, book, counts and findings go one by one, as
+// the desk takes them: a record needs two of them, and a struct would be taken apart at each call.
 fn take_all(
     rt: &HostRuntime,
     start: State,
@@ -90,6 +91,7 @@ fn take_all(
 }
 
 // Opening comes before the records, so a bad book wins over a log that is cut off further on.
+#[tactic(auto, using(wire::proofs::ChoiceLaws::pick_least), unfolding(daylog::specs::Records::record_length))]
 pub(crate) fn judge_day(
     rt: &HostRuntime,
     log: &[u8],

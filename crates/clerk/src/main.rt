@@ -5,7 +5,7 @@
 mod day;
 
 use office::clerk::Clerk;
-use office::close::{Day, finish, refuse};
+use office::close::{Day, close};
 use office::input::{TABLES, read_tables};
 use office::keep::{FILE, read_book};
 use places::MOST_FINDINGS;
@@ -16,25 +16,22 @@ const CLERK: Clerk = Clerk {
     mark: b"AXD ",
 };
 
+// `position_clerk` has a `run` and a `main` like these. One `run` for both would take the judging as a closure that
+// holds log, book and findings; one `main` would have to be told how much of the log is read first.
 fn run(rt: &HostRuntime, log: &[u8], old: &[u8], book: &mut [u8]) {
     let mut findings = [0u8; MOST_FINDINGS];
-    match day::judge_day(rt, log, book, &mut findings) {
-        Err(refusal) => {
-            refuse(rt, CLERK.who, refusal.number());
-        }
-        Ok(found) => {
-            let day = Day {
-                log,
-                old,
-                new: book,
-                findings: &findings,
-                found,
-            };
-            finish(rt, CLERK, day);
-        }
-    }
+    let judged = day::judge_day(rt, log, book, &mut findings);
+    let day = judged.map(|found| Day {
+        log,
+        old,
+        new: book,
+        findings: &findings,
+        found,
+    });
+    close(rt, CLERK, day);
 }
 
+// Only the header and its tables are read before the day is judged, and a log that is cut off there is judged too.
 fn main(rt: HostRuntime) {
     let mut room = [0u8; FILE];
     let old = read_book(&rt, CLERK, &mut room);

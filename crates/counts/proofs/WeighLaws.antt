@@ -3,19 +3,16 @@
 use mathlib.Core.Path.{◌≡◌, refl, sym, ap, ap₂, ◌∙◌}
 use mathlib.Core.Bool.{Bool, true, false, not, ◌&&◌, not-not}
 use mathlib.Core.List.{List}
-use Prim.Native.Nat.{ℕ, ◌≤◌, ◌<◌}
+use Prim.Native.Nat.{ℕ, ◌*◌, ◌≤◌, ◌<◌}
 use native.Mathlib.Omega.{arith}
 use borrow.Author.Tests.{eq-eqb, ne_eqb, ltb-true, not-true, not-false}
 use lib.Dec.{eqb, ltb}
-use lib.ListN.{length, get_or}
-use Rattle.std.specs.Prelude.{Ok, Err, Option, Some, None}
-use Rattle.wire.specs.declared.refusal.Refusal.{Refusal}
-use Rattle.wire.specs.Refusals.{number}
+use lib.ListN.{length, get_or, drop, length-take}
+use Rattle.std.specs.Prelude.{Ok, Option, Some, None, is_some}
 use Rattle.wire.specs.Choice.{pick}
 use Rattle.wire.specs.Outcomes.{refused}
-use Rattle.wire.proofs.ChoiceLaws.{pick_yes, pick_no, and_yes, and_no, and_no_right, flip_yes, flip_no}
+use Rattle.wire.proofs.ChoiceLaws.{pick_yes, pick_no, and_no, and_no_right, flip_no}
 use Rattle.wire.proofs.AnswerLaws.{answer_done}
-use Rattle.wire.proofs.RefusalLaws.{refuse}
 use Rattle.rules.specs.declared.text.Text.{Text}
 use Rattle.exemptions.specs.Exemption.{exempt, clause, clauses}
 use Rattle.exemptions.proofs.ClauseLaws.{exempt_clause}
@@ -25,6 +22,10 @@ use Rattle.tables.specs.Entries.{entries}
 use Rattle.tables.specs.Accounts.{accounts_good, is_in, group_in}
 use Rattle.tables.specs.ContractEntries.{contract_at, contract_place, found_contract}
 use Rattle.daylog.specs.Records.{record_good}
+use Rattle.daylog.specs.declared.header.Header.{Header}
+use Rattle.daylog.specs.Header.{text_of, contracts_part, accounts_part, tables_of}
+use Rattle.daylog.specs.Changed.{tables_changed}
+use Rattle.daylog.proofs.ChangedLaws.{still_good}
 use Rattle.tables.specs.Tables.{Tables, tables_in, contract_of, has_account, has_contract, group_of}
 use Rattle.tables.specs.Way.{found_account}
 use Rattle.tables.proofs.Search.{found_length, found_group}
@@ -53,7 +54,7 @@ module _ (text : Text) (contracts accounts : List ℕ) where
     pub entry : e ≡ t.contract (contract_of t id)
 
   -- the search gives nothing: were the id in the table, it would give its place
-  pub no_contract : (id : ℕ) → None ≡ found_contract contracts id → has_contract t id ≡ false
+  no_contract : (id : ℕ) → None ≡ found_contract contracts id → has_contract t id ≡ false
   unfolding found_contract has_contract contract_of tables_in
   no_contract id e = go (ltb (placed id) (entries contracts)) refl
     where
@@ -75,6 +76,11 @@ module _ (text : Text) (contracts accounts : List ℕ) where
             entry = ap (λ (p : ℕ × Contract). p.1) same;
           }
       go false l = let z : ◌≡◌ {A = ℕ} 0 1 = cc (pick_no _ None (at id) None l refl) in absurd (omega arith)
+
+  -- in one: whether it gives anything
+  pub has_found : (id : ℕ) (r : Option (ℕ × Contract)) → r ≡ found_contract contracts id → has_contract t id ≡ is_some r
+  has_found id None e = no_contract id e
+  has_found id (Some p) e = (a_contract id p.0 p.1 e).has
 
   -- a place of 32 contracts at the most is a small number
   pub place_fits : (id k : ℕ) (e : Contract) → Here id k e → length contracts ≤ 256 → k < 65536
@@ -101,6 +107,9 @@ module _ (text : Text) (contracts accounts : List ℕ) where
         ap (λ s. get_or s 4 0) is ∙ found_group accounts good number (ltb-true _ _ (an_account some))
         ∙ pick_yes _ _ _ _ (an_account some) refl
 
+-- whether the searches find anything
+pub ruleset found = (has_found, no_account, an_account)
+
 -- ---- the chain, where the record's fields, its contract and its first account are there
 module _ (t : Tables) (r : Record) (good : record_good t.text r ≡ true)
     (contract : has_contract t r.contract ≡ true) (account : has_account t r.first ≡ true) where
@@ -109,11 +118,6 @@ module _ (t : Tables) (r : Record) (good : record_good t.text r ≡ true)
   unfolding fields_fault
   second_decides n e =
       pick_no _ _ _ _ (flip_no _ good) (pick_no _ _ _ _ (flip_no _ contract) (pick_no _ _ _ _ (flip_no _ account) e))
-
-  -- a trade's second account is not there
-  pub second_missing : r.sort ≡ 1 → has_account t r.second ≡ false → 13 ≡ fields_fault t r
-  second_missing s away =
-      second_decides 13 (pick_yes _ _ _ _ (and_yes (eqb r.sort 1) _ (eq-eqb r.sort 1 s) (flip_yes _ away)) refl)
 
   -- it is there
   pub second_there : has_account t r.second ≡ true → 0 ≡ fields_fault t r
@@ -156,6 +160,8 @@ module _ (text : Text) (e : Contract) (r : Record) where
   unfolding reasons_for clauses
   large_by_is = rw (← no_clause text e.sort 3 r.instruction r.purpose) refl
 
+pub ruleset by_clauses = (self_trade_by_is, frequent_by_is, large_by_is)
+
 -- a cancel has no second group
 no_second : (text : Text) (e : Contract) (r : Record) (place group a b : ℕ) → (r.sort ≡ 1 → ⊥)
     → plan_for text e r place group a ≡ plan_for text e r place group b
@@ -183,12 +189,25 @@ module _ (t : Tables) (r : Record) (e : Contract) (place group : ℕ)
 
 -- ---- the answer
 module _ (t : Tables) (r : Record) where
-  -- a refusal by its number, and a plan where there is none
-  pub refused_by : (why : Refusal) → number why ≡ fields_fault t r → Err why ≡ weighed t r
-  unfolding weighed
-  refused_by why e = refuse why _ e
-
+  -- a plan, where there is no refusal
   pub counts_by : (p : Plan) (why : Reasons) → 0 ≡ fields_fault t r → p ≡ plan_of t r → why ≡ reasons_of t r
       → Ok (p, why) ≡ weighed t r
   unfolding weighed
   counts_by p w e is clear = answer_done _ refused (fields_fault t r) (sym e) (ap₂ (λ q z. Ok (q, z)) is clear)
+
+-- ---- the parts of a log that are lent on, where its tables are still the day's
+module _ (head : Header) (log contracts accounts : List ℕ) (is : contracts ≡ contracts_part head log)
+    (are : accounts ≡ accounts_part head log) (same : tables_changed head log ≡ false) where
+  -- 32 contracts at the most are 256 bytes at the most
+  pub lent_few : length contracts ≤ 256
+  lent_few =
+      let most = (still_good head log same).1.most_contracts in
+      rw is (omega (arith, length-take (8 * head.contracts) (drop 16 log)))
+
+  pub lent_accounts : accounts_good accounts ≡ true
+  lent_accounts = rw are (still_good head log same).1.accounts
+
+  -- and they hold its tables
+  pub lent_tables : tables_in (text_of head) contracts accounts ≡ tables_of log
+  unfolding tables_of
+  lent_tables = rw (is, are, (still_good head log same).0)

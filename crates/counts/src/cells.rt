@@ -11,31 +11,41 @@ use places::cell_of;
 use rules::kinds::Kinds;
 use wire::refusal::Refusal;
 
-fn counts_as(p: Plan, kind: u8) -> bool
-    ensures { result ≡ counts_as p kind }
-{
-    ((kind == 1) & p.own) | ((kind == 2) & p.frequent) | ((kind == 3) & p.over)
-}
+// A kind is its number, 1 to 3, as `cell_of` of places takes it: an enum would be turned back for each cell. Each of
+// the three is named, as `cells_changed` and `raised` of specs/Cells name them. Kinds, records taken, plan and counts
+// go by themselves, as the public `check_plan` and `raise`, and `plan_fault` of specs/Cells, take them.
+impl Plan {
+    #[tactic(auto, unfolding(crate::specs::Counting::counts_as))]
+    fn counts_as(self, kind: u8) -> bool
+        ensures { result ≡ counts_as self kind }
+    {
+        ((kind == 1) & self.own) | ((kind == 2) & self.frequent) | ((kind == 3) & self.over)
+    }
 
-fn cell_for(kinds: Kinds, p: Plan, kind: u8) -> usize
-    ensures { result ≡ cell_for kinds p kind }
-{
-    cell_of(kinds, p.group, kind, p.place)
+    // The cell that it raises where it counts as a kind.
+    #[tactic(auto, unfolding(crate::specs::Cells::cell_for))]
+    fn cell(self, kinds: Kinds, kind: u8) -> usize
+        ensures { result ≡ cell_for kinds self kind }
+    {
+        cell_of(kinds, self.group, kind, self.place)
+    }
 }
 
 fn count_at(c: &[u32], i: usize) -> u32
     ensures { result ≡ get_or c.now i 0 }
 {
-    if i < c.len() { c[i] } else { 0 }
+    c.get(i).copied().unwrap_or(0)
 }
 
 // Whether the cell that is to be raised stands above the number of records taken.
+#[tactic(auto, unfolding(crate::specs::Cells::cell_changed))]
 fn cell_changed(kinds: Kinds, taken: u32, p: Plan, c: &[u32], kind: u8) -> bool
     ensures { result ≡ cell_changed kinds taken p c.now kind }
 {
-    counts_as(p, kind) & (taken < count_at(c, cell_for(kinds, p, kind)))
+    p.counts_as(kind) & (taken < count_at(c, p.cell(kinds, kind)))
 }
 
+#[tactic(auto, unfolding(crate::specs::Cells::cells_changed))]
 fn cells_changed(kinds: Kinds, taken: u32, p: Plan, c: &[u32]) -> bool
     ensures { result ≡ cells_changed kinds taken p c.now }
 {
@@ -44,28 +54,28 @@ fn cells_changed(kinds: Kinds, taken: u32, p: Plan, c: &[u32]) -> bool
         | cell_changed(kinds, taken, p, c, 3)
 }
 
-// One more in cell i, where the test holds.
+// One more in cell i, where the test holds. By its index: `get_mut` was tried, and after it no more is known of the
+// counts than how many they are.
+#[tactic(auto, unfolding(crate::specs::Cells::bumped, wire::specs::Choice::pick))]
 fn bump(c: &mut [u32], raise: bool, i: usize)
     requires { raise ≡ true → get_or c.old i 0 < 4294967295 }
     ensures { c.new ≡ bumped raise i c.old }
 {
-    if raise {
-        if i < c.len() {
-            c[i] = c[i] + 1;
-        }
+    if raise && i < c.len() {
+        c[i] += 1;
     }
 }
 
+#[tactic(auto, unfolding(crate::specs::Cells::raised_for, crate::specs::Way::Small))]
 fn raise_for(kinds: Kinds, p: Plan, kind: u8, c: &mut [u32])
     requires { Small 4294967294 kinds p c.old kind }
     ensures { c.new ≡ raised_for kinds p kind c.old }
 {
-    let raise = counts_as(p, kind);
-    let cell = cell_for(kinds, p, kind);
-    bump(c, raise, cell);
+    bump(c, p.counts_as(kind), p.cell(kinds, kind));
 }
 
 // Whether a record that may be counted is refused: asked, and nothing written.
+#[tactic(auto, using(wire::proofs::ChosenLaws::chosen), unfolding(crate::specs::Cells::plan_fault))]
 pub fn check_plan(kinds: Kinds, taken: u32, p: Plan, c: &[u32]) -> Result<(), Refusal>
     ensures { result ≡ checked (plan_fault kinds taken p c.now) }
 {
@@ -78,8 +88,10 @@ pub fn check_plan(kinds: Kinds, taken: u32, p: Plan, c: &[u32]) -> Result<(), Re
     Ok(())
 }
 
+#[tactic(auto, using(crate::proofs::CellLaws::ready), unfolding(crate::specs::Cells::raised))]
 fn raise_each(kinds: Kinds, taken: u32, p: Plan, c: &mut [u32])
-    requires { (taken < 1000000) × (cells_changed kinds taken p c.old ≡ false) }
+    requires room { taken < 1000000 }
+    requires unchanged { cells_changed kinds taken p c.old ≡ false }
     ensures { c.new ≡ raised kinds p c.old }
 {
     raise_for(kinds, p, 1, c);
@@ -88,6 +100,7 @@ fn raise_each(kinds: Kinds, taken: u32, p: Plan, c: &mut [u32])
 }
 
 // Raises the cells of a record. A refusal leaves them.
+#[tactic(auto, using(wire::proofs::ChosenLaws::chosen), unfolding(crate::specs::Cells::plan_fault))]
 pub fn raise(kinds: Kinds, taken: u32, p: Plan, c: &mut [u32]) -> Result<(), Refusal>
     ensures answer { result ≡ checked (plan_fault kinds taken p c.old) }
     ensures counts { c.new ≡ counts_after kinds taken p c.old }

@@ -8,7 +8,7 @@ ghost use Rattle.counts.specs.Weigh.{weighed_on};
 
 use daylog::broker::brokers_wrong;
 use daylog::changed::tables_changed;
-use daylog::header::{Header, text_of};
+use daylog::header::{Header, accounts_part, contracts_part, text_of};
 use daylog::record::{Record, record_good, record_of};
 use exemptions::clause::{Clauses, clauses_of};
 use rules::measure::is_large;
@@ -29,13 +29,16 @@ pub struct Plan {
 }
 
 // Why it was spared: the clauses of its first order and of its second. A cancel has no second order, and all 0 there.
+// No Option: `reasons_for` of specs/Counting says 0, and the demands' `passed_on` is a list of six numbers.
 #[derive(Clone, Copy)]
 pub struct Reasons {
     pub first: Clauses,
     pub second: Clauses,
 }
 
-// A record's clauses, on a contract: they are looked up once, and what it counts as goes by them.
+// A record's clauses, on a contract: they are looked up once, and what it counts as goes by them. Its type stays the
+// byte as it came, 1 a trade and 2 a cancel: this promises an answer for every byte, and an enum has no such answer.
+#[tactic(auto, unfolding(crate::specs::Counting::reasons_for, wire::specs::Choice::pick))]
 fn reasons_for(text: Text, e: Contract, r: Record) -> Reasons
     ensures { result ≡ reasons_for text e r }
 {
@@ -43,11 +46,7 @@ fn reasons_for(text: Text, e: Contract, r: Record) -> Reasons
     if r.sort != 1 {
         return Reasons {
             first,
-            second: Clauses {
-                own: 0,
-                frequent: 0,
-                over: 0,
-            },
+            second: Clauses::default(),
         };
     }
     Reasons {
@@ -79,6 +78,9 @@ fn is_large_cancel(text: Text, e: Contract, r: Record, order: Clauses) -> bool
     (r.sort == 2) & is_large(text, lots, largest) & (order.over == 0)
 }
 
+// Text, entry, record and two groups, as `plan_for` of specs/Counting takes them. No Option for the second group: of a
+// cancel any number there gives the same.
+#[tactic(auto, using(crate::proofs::WeighLaws::by_clauses), unfolding(crate::specs::Counting::plan_for))]
 fn weigh_for(
     text: Text,
     e: Contract,
@@ -102,13 +104,19 @@ fn weigh_for(
 }
 
 // Each number is searched for once. The tables are sound: 32 contracts at the most, and accounts that rise.
+#[tactic(auto, using(crate::proofs::WeighLaws::found), unfolding(
+// the refusals in their order
+crate::specs::Counting::weighed, crate::specs::Counting::fields_fault, tables::specs::Tables::tables_in,
+// and an answer by their number
+wire::specs::Outcomes::answered, wire::specs::Choice::pick))]
 fn weigh_in(
     text: Text,
     contracts: &[u8],
     accounts: &[u8],
     r: Record,
 ) -> Result<(Plan, Reasons), Refusal>
-    requires { (length contracts.now ≤ 256) × (accounts_good accounts.now ≡ true) }
+    requires few { length contracts.now ≤ 256 }
+    requires rising { accounts_good accounts.now ≡ true }
     ensures { result ≡ weighed (tables_in text contracts.now accounts.now) r }
 {
     if !record_good(text, r) {
@@ -119,14 +127,14 @@ fn weigh_in(
     };
     let place = at as u16;
     let first = find_account(accounts, r.first);
-    if first.len() == 0 {
+    if first.is_empty() {
         return Err(Refusal::NoAccount);
     }
     if r.sort != 1 {
         return Ok(weigh_for(text, e, r, place, get8(first, 4), 0));
     }
     let second = find_account(accounts, r.second);
-    if second.len() == 0 {
+    if second.is_empty() {
         return Err(Refusal::NoAccount);
     }
     Ok(weigh_for(text, e, r, place, get8(first, 4), get8(second, 4)))
@@ -134,6 +142,13 @@ fn weigh_in(
 
 // What a record counts for and why it was spared, by the tables that are lent with it, which must still be those of
 // the day with this header.
+#[tactic(auto, using(crate::proofs::WeighLaws::lent_tables), unfolding(
+// 19, the brokers', and the refusals of the record's own fields
+crate::specs::Weigh::weigh_fault, crate::specs::Weigh::record_fault,
+// what is answered by their number
+crate::specs::Weigh::weighed_on, crate::specs::Counting::weighed, wire::specs::Outcomes::answered,
+// and how these are chosen
+wire::specs::Choice::or_else, wire::specs::Choice::pick))]
 pub fn weigh(head: Header, log: &[u8], row: &[u8]) -> Result<(Plan, Reasons), Refusal>
     ensures { result ≡ weighed_on head log.now row.now }
 {
@@ -143,11 +158,10 @@ pub fn weigh(head: Header, log: &[u8], row: &[u8]) -> Result<(Plan, Reasons), Re
     if brokers_wrong(head.version, row) {
         return Err(Refusal::Fields);
     }
-    let middle = 16 + 8 * (head.contracts as usize);
     weigh_in(
         text_of(head),
-        &log[16..middle],
-        &log[middle..],
+        contracts_part(head, log),
+        accounts_part(head, log),
         record_of(row),
     )
 }

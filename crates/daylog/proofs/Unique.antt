@@ -14,6 +14,8 @@ use Rattle.daylog.proofs.broker.brokers_wrong.Reads as brokers_wrong
 use Rattle.daylog.proofs.changed.tables_changed.Reads as tables_changed
 use Rattle.daylog.proofs.header.header_of.Reads as header_of
 use Rattle.daylog.proofs.header.text_of.Reads as text_of
+use Rattle.daylog.proofs.header.contracts_part.Reads as contracts_part
+use Rattle.daylog.proofs.header.accounts_part.Reads as accounts_part
 use Rattle.daylog.proofs.header.check_log.Reads as check_log
 use Rattle.daylog.proofs.record.record_length.Reads as record_length
 use Rattle.daylog.proofs.record.record_of.Reads as record_of
@@ -39,6 +41,14 @@ header_of_unique κs a r₁ r₂ s₁ s₂ p q = p ∙ sym q
 pub text_of_unique : (κs : _) (a : _) (r₁ r₂ : Text) (s₁ s₂ : _)
     → text_of.Post κs a r₁ s₁ → text_of.Post κs a r₂ s₂ → r₁ ≡ r₂
 text_of_unique κs a r₁ r₂ s₁ s₂ p q = p ∙ sym q
+
+pub contracts_part_unique : (κs : _) (a : _) (r₁ r₂ : _) (s₁ s₂ : _)
+    → contracts_part.Post κs a r₁ s₁ → contracts_part.Post κs a r₂ s₂ → r₁.now ≡ r₂.now
+contracts_part_unique κs a r₁ r₂ s₁ s₂ p q = p ∙ sym q
+
+pub accounts_part_unique : (κs : _) (a : _) (r₁ r₂ : _) (s₁ s₂ : _)
+    → accounts_part.Post κs a r₁ s₁ → accounts_part.Post κs a r₂ s₂ → r₁.now ≡ r₂.now
+accounts_part_unique κs a r₁ r₂ s₁ s₂ p q = p ∙ sym q
 
 pub check_log_unique : (κs : _) (a : _) (r₁ r₂ : Result ⊤ Refusal) (s₁ s₂ : _)
     → check_log.Post κs a r₁ s₁ → check_log.Post κs a r₂ s₂ → r₁ ≡ r₂

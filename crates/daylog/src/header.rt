@@ -2,7 +2,7 @@
 ghost use Rattle.std.specs.Prelude.{◌≡◌, ◌+◌, ◌*◌, ◌≤◌, length};
 ghost use Rattle.wire.specs.Outcomes.{checked};
 ghost use Rattle.daylog.specs.Header.{header_of, is_version, text_of, log_marked, sizes_good};
-ghost use Rattle.daylog.specs.Header.{entries_fault, head_fault, log_fault};
+ghost use Rattle.daylog.specs.Header.{contracts_part, accounts_part, entries_fault, head_fault, log_fault};
 
 use crate::broker::WITH_BROKERS;
 use rules::text::{Text, is_rulebook};
@@ -22,6 +22,7 @@ pub struct Header {
     pub spare: u16,
 }
 
+#[tactic(auto, unfolding(crate::specs::Header::header_of))]
 pub fn header_of(log: &[u8]) -> Header
     ensures { result ≡ header_of log.now }
 {
@@ -35,7 +36,8 @@ pub fn header_of(log: &[u8]) -> Header
     }
 }
 
-// The text by which a day with this header is judged.
+// The text by which a day with this header is judged. A function and no `From`: what positions and desk promise is told
+// by the definition of this name in specs/Header.
 pub fn text_of(h: Header) -> Text
     ensures { result ≡ text_of h }
 {
@@ -44,11 +46,27 @@ pub fn text_of(h: Header) -> Text
     }
 }
 
-// "AXD"
+// The contract table's part of a log, as far as the log goes. Header and log go side by side, as specs/Header takes
+// them.
+pub fn contracts_part(h: Header, log: &[u8]) -> &[u8]
+    ensures { result.now ≡ contracts_part h log.now }
+{
+    let rest = log.get(16..).unwrap_or(&[]);
+    rest.get(..8 * (h.contracts as usize)).unwrap_or(rest)
+}
+
+// The account table's part: what comes after the contracts.
+pub fn accounts_part(h: Header, log: &[u8]) -> &[u8]
+    ensures { result.now ≡ accounts_part h log.now }
+{
+    log.get(16 + 8 * (h.contracts as usize)..).unwrap_or(&[])
+}
+
+// book's `is_marked` says the same of any letter, but daylog does not stand on book.
 fn mark_good(log: &[u8]) -> bool
     ensures { result ≡ log_marked log.now }
 {
-    (get8(log, 0) == 0x41) & (get8(log, 1) == 0x58) & (get8(log, 2) == 0x44)
+    log.starts_with(b"AXD")
 }
 
 fn is_version(version: u16) -> bool
@@ -66,26 +84,25 @@ fn sizes_good(h: Header) -> bool
 }
 
 // Checks 1 (whole length), 7 and 8: each table's part of the slice is handed to its own check.
+#[tactic(auto, using(wire::proofs::ChosenLaws::chosen), unfolding(crate::specs::Header::entries_fault))]
 fn check_entries(h: Header, log: &[u8]) -> Result<(), Refusal>
-    requires { 16 ≤ length log.now }
     ensures { result ≡ checked (entries_fault h log.now) }
 {
-    let middle = 16 + 8 * (h.contracts as usize);
-    if log.len() != middle + 8 * (h.accounts as usize) {
+    if log.len() != 16 + 8 * (h.contracts as usize) + 8 * (h.accounts as usize) {
         return Err(Refusal::Length);
     }
-    if !contracts_good(text_of(h), &log[16..middle]) {
+    if !contracts_good(text_of(h), contracts_part(h, log)) {
         return Err(Refusal::ContractEntry);
     }
-    if !accounts_good(&log[middle..]) {
+    if !accounts_good(accounts_part(h, log)) {
         return Err(Refusal::AccountEntry);
     }
     Ok(())
 }
 
 // Checks 3 to 6, then those of the tables.
+#[tactic(auto, using(wire::proofs::ChosenLaws::chosen), unfolding(crate::specs::Header::head_fault))]
 fn check_head(h: Header, log: &[u8]) -> Result<(), Refusal>
-    requires { 16 ≤ length log.now }
     ensures { result ≡ checked (head_fault h log.now) }
 {
     if !is_version(h.version) {
@@ -104,6 +121,7 @@ fn check_head(h: Header, log: &[u8]) -> Result<(), Refusal>
 }
 
 // The first of opening's checks 1 to 8 that a header with its tables fails, if any.
+#[tactic(auto, using(wire::proofs::ChosenLaws::chosen), unfolding(crate::specs::Header::log_fault))]
 pub fn check_log(log: &[u8]) -> Result<(), Refusal>
     ensures { result ≡ checked (log_fault log.now) }
 {

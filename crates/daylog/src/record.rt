@@ -23,6 +23,7 @@ pub struct Record {
 }
 
 // How many bytes a record has, in a log of a version.
+#[tactic(auto, using(wire::proofs::ChoiceLaws::chain), unfolding(crate::specs::Records::record_length))]
 pub fn record_length(version: u16) -> usize
     ensures { result ≡ record_length version }
 {
@@ -30,6 +31,7 @@ pub fn record_length(version: u16) -> usize
 }
 
 // The fields of a record's bytes; a byte past the end counts as 0.
+#[tactic(auto, unfolding(crate::specs::Records::record_of))]
 pub fn record_of(bytes: &[u8]) -> Record
     ensures { result ≡ record_of bytes.now }
 {
@@ -54,6 +56,7 @@ fn order_good(text: Text, instruction: u8, purpose: u8) -> bool
 }
 
 // Whether a record is a trade or a cancel with its own fields in order.
+#[tactic(auto, unfolding(crate::specs::Records::record_good))]
 pub fn record_good(text: Text, r: Record) -> bool
     ensures { result ≡ record_good text r }
 {
@@ -67,6 +70,7 @@ pub fn record_good(text: Text, r: Record) -> bool
 }
 
 // Whether an end record has its type, and zero in all bytes but those of the number.
+#[tactic(auto, unfolding(crate::specs::Records::end_good))]
 pub fn end_good(row: &[u8]) -> bool
     ensures { result ≡ end_good row.now }
 {

@@ -2,22 +2,21 @@
 -- Assumes nothing.
 use mathlib.Core.Path.{◌≡◌, refl, sym, ap, ◌∙◌}
 use mathlib.Core.List.{List}
-use Prim.Native.Nat.{ℕ, ◌+◌, ◌-◌, ◌*◌, ◌^◌, ◌≤◌, ◌<◌}
+use Prim.Native.Nat.{ℕ, ◌*◌, ◌^◌, ◌≤◌, ◌<◌}
 use native.Mathlib.Omega.{arith}
 use borrow.Author.Tests.{lt-ltb, le-ltb}
-use lib.ListN.{length, get_or, take, drop, length-take, length-drop}
-use Rattle.std.specs.Prelude.{Result, Ok, Err}
+use lib.ListN.{length, get_or}
+use Rattle.std.specs.Prelude.{Result, Ok, Err, ⊤}
 use Rattle.wire.specs.declared.refusal.Refusal.{Refusal}
 use Rattle.wire.specs.declared.refusal.Refusal.TheVariants.{FindingsShort}
+use Rattle.wire.specs.Outcomes.{answered, refused, checked}
+use Rattle.tables.specs.Tables.{Tables}
 use Rattle.wire.proofs.ChoiceLaws.{or_else_lem, or_none, pick_yes, pick_no}
 use Rattle.wire.proofs.BelowLaws.{count_le}
 use Rattle.rules.specs.declared.kinds.Kinds.{Kinds}
-use Rattle.rules.specs.Kinds.{kinds_of, kinds_in, most_kinds}
-use Rattle.rules.proofs.KindLaws.{few, kinds_most}
+use Rattle.rules.proofs.KindLaws.{few}
 use Rattle.wire.proofs.AnswerLaws.{outcome_map, answer_done}
-use Rattle.wire.proofs.RefusalLaws.{refuse}
-use Rattle.daylog.specs.declared.header.Header.{Header}
-use Rattle.tables.specs.Entries.{entries}
+use Rattle.wire.proofs.RefusalLaws.{refuse, accepted}
 use Rattle.daylog.specs.Header.{header_of, tables_of}
 use Rattle.daylog.specs.GoodLog.{GoodLog}
 use Rattle.places.specs.Places.{ladders, book_size, cells}
@@ -38,6 +37,7 @@ use Rattle.desk.specs.Offences.{kinds_on, verdict_on}
 use Rattle.desk.specs.Way.{day_places}
 use Rattle.desk.specs.End.{call_fault, row_fault, lent_fault, cells_fault, cell_verdict, counts_fault, day_found}
 use Rattle.desk.specs.End.{DayEnds}
+use Rattle.wire.proofs.ChosenLaws.{chosen}
 use Rattle.desk.proofs.HandedLaws.{room_sized, sound_tables}
 use Rattle.desk.proofs.VerdictLaws.{day_bytes, day_same, kinds_are, count_same}
 
@@ -47,17 +47,8 @@ pub found_low : (kinds : Kinds) (places : List ℕ) (contracts n : ℕ) → n �
 unfolding found_in
 found_low kinds places contracts n e = omega (arith, count_le (hit_at places contracts) (ladders kinds), few kinds)
 
--- the buffer of places is long enough for every rulebook
-pub places_fit : (rulebook : ℕ) (k : Kinds) (n : ℕ) → k ≡ kinds_of rulebook → n ≡ ladders k → n ≤ 2048 * most_kinds
-places_fit rulebook k n e is = omega (arith, ap kinds_in e, kinds_most rulebook)
-
--- how many contracts the lent part has
-pub lent_entries : (h : Header) (log : List ℕ) → length log ≡ 16 + 8 * h.contracts + 8 * h.accounts
-    → entries (take (16 + 8 * h.contracts - 16) (drop 16 log)) ≡ h.contracts
-lent_entries h log e = omega (arith, length-take (16 + 8 * h.contracts - 16) (drop 16 log), length-drop 16 log)
-
--- ---- what is known where a call is handed what it needs
-pub record Handed (day : Day) (log book : List ℕ) (len : ℕ) : Type 0 where
+-- ---- what is known where ending is lent what it needs
+pub record Lent (day : Day) (log book : List ℕ) (len : ℕ) : Type 0 where
   pub head : day.head ≡ header_of log
   pub tables : GoodLog day.head log
   pub fit : Fits (day_shape day.head.rulebook) day.head.rulebook day.head.date book
@@ -70,10 +61,11 @@ fits_day rulebook date book e =
     let f : Fits (shape_of book) rulebook date book = fits (shape_of book) rulebook date book e in
     rw f.same at f
 
-pub handed : (day : Day) (log row book : List ℕ) (len : ℕ) → lent_fault day log row book len ≡ 0
-    → Handed day log book len
+pub lent : (day : Day) (log row book : List ℕ) (len : ℕ) {a : ⊤} → Ok a ≡ checked (lent_fault day log row book len)
+    → Lent day log book len
 unfolding lent_fault call_fault
-handed day log row book len e =
+lent day log row book len {a} ok =
+    let e = (accepted (lent_fault day log row book len) tt ok).0 in
     let e1 = or_none (call_fault day log row len) _ e in
     let e2 = or_none (row_fault day row) _ e1.1 in
     let call = or_none (sizes_fault day row len) _ e1.0 in
@@ -85,7 +77,7 @@ handed day log row book len e =
     }
 
 -- the day's book has its length
-pub book_long : (day : Day) (log book : List ℕ) (len : ℕ) → Handed day log book len → length book
+pub book_long : (day : Day) (log book : List ℕ) (len : ℕ) → Lent day log book len → length book
     ≡ book_size (kinds_for day.head)
 unfolding day_shape
 book_long day log book len h = h.fit.facts.long
@@ -141,3 +133,11 @@ module _ (day : Day) (log c : List ℕ) (e : day.head ≡ header_of log) (good :
         ∙ sym (pick_no _ _ _ _ (le-ltb room (8 * found_count (cell_verdict (tables_of log) c)) (omega (arith, n_is)))
         refl))
         (ap Ok n_is)
+
+-- ---- what is asked before ending: by the number of its refusal
+pub found_is : (fault : ℕ) (t : Tables) (c : List ℕ) → day_found fault t c
+    ≡ answered fault (Ok (found_count (cell_verdict t c))) refused
+unfolding day_found
+found_is fault t c = refl
+
+pub ruleset asking = (chosen, found_is)

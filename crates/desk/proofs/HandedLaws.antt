@@ -1,11 +1,13 @@
 -- What is known where a call is handed what it needs: of the tables, and of the room for the counts. Assumes nothing.
-use mathlib.Core.Path.{◌≡◌}
+use mathlib.Core.Path.{◌≡◌, refl}
 use mathlib.Core.List.{List}
 use Prim.Native.Nat.{ℕ, ◌≤◌}
 use native.Mathlib.Omega.{arith}
 use borrow.Author.Tests.{ltb-false}
-use lib.Dec.{lit<}
+use lib.Dec.{lit<, ltb}
+use Rattle.wire.specs.Choice.{pick}
 use Rattle.wire.proofs.ChoiceLaws.{pick_zero, or_none}
+use Rattle.rules.specs.declared.kinds.Kinds.{Kinds}
 use Rattle.daylog.specs.declared.header.Header.{Header}
 use Rattle.daylog.specs.Header.{header_of, log_fault}
 use Rattle.daylog.specs.GoodLog.{GoodLog}
@@ -19,6 +21,7 @@ use Rattle.desk.specs.declared.state.State.TheVariants.{Closed, Open}
 use Rattle.counts.specs.Weigh.{weigh_fault}
 use Rattle.desk.specs.Open.{kinds_for, few_fault, handed_fault, open_fault}
 use Rattle.desk.specs.Take.{sizes_fault, held_fault}
+use Rattle.wire.proofs.ChosenLaws.{chosen}
 
 -- ---- a call on an open day
 -- a call that is handed enough counts has room for every cell
@@ -54,3 +57,10 @@ pub room_opened : (state : State) (log book : List ℕ) (len : ℕ) → open_fau
 unfolding open_fault
 room_opened Closed log book len e = room_there log book len e
 room_opened (Open day) log book len e = absurd (omega arith)
+
+-- what opening gives: by the number of its refusal, the room for the counts among them
+pub few_is : (kinds : Kinds) (len : ℕ) → few_fault kinds len ≡ pick (ltb len (cells kinds)) 16 0
+unfolding few_fault
+few_is kinds len = refl
+
+pub ruleset opening = (chosen, few_is)

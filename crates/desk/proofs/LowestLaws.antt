@@ -1,15 +1,16 @@
--- Laws of the search for a ladder's lowest place. Assumes nothing.
+-- Laws of the search for a ladder's lowest place, and of the room for all of them. Assumes nothing.
 use mathlib.Core.Path.{◌≡◌}
 use mathlib.Core.Bool.{Bool, ◌&&◌}
 use mathlib.Core.List.{List}
 use Prim.Native.Nat.{ℕ, ◌+◌, ◌*◌, ◌/◌}
 use lib.Dec.{eqb}
-use lib.ListN.{length, get_or}
+use lib.ListN.{length, get_or, length-take}
 use Rattle.wire.specs.Below.{first}
 use Rattle.wire.proofs.BelowLaws.{first_cong}
 use Rattle.rules.specs.declared.text.Text.{Text}
 use Rattle.rules.specs.declared.kinds.Kinds.{Kinds}
 use Rattle.rules.specs.declared.measure.Times.{Times}
+use Rattle.rules.proofs.KindLaws.{kinds_most}
 use Rattle.rules.specs.Measure.{times, enough, reached}
 use Rattle.places.specs.Places.{kind_at, family_at}
 use Rattle.places.proofs.LadderLaws.{ladder_cell}
@@ -36,3 +37,6 @@ module _ (text : Text) (kinds : Kinds) (fams c : List ℕ) (ladder : ℕ) where
       ≡ place_at text kinds fams c ladder
   unfolding place_at lowest
   lowest_is number e = first_cong _ reached_in (length fams) (λ k l. tested number e k)
+
+-- a rulebook's ladders are within the room for the most kinds
+pub ruleset within_most = (kinds_most, length-take)

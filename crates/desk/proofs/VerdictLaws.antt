@@ -126,11 +126,12 @@ module _ (text : Text) (contracts accounts c : List ℕ) where
     member = member_is;
   }
 
+-- as many contracts as the header says
+size_is : (h : Header) (log : List ℕ) → GoodLog h log → entries (contracts_part h log) ≡ h.contracts
+size_is h log good = omega (arith, good.whole, length-take (8 * h.contracts) (drop 16 log), length-drop 16 log)
+
 -- ---- of a day whose log is good
 module _ (h : Header) (log c : List ℕ) (e : h ≡ header_of log) (good : GoodLog h log) where
-  size_is : entries (contracts_part h log) ≡ h.contracts
-  size_is = omega (arith, good.whole, length-take (8 * h.contracts) (drop 16 log), length-drop 16 log)
-
   tables_are : tables_in (text_of h) (contracts_part h log) (accounts_part h log) ≡ tables_of log
   unfolding tables_of
   tables_are = rw e
@@ -157,7 +158,7 @@ module _ (h : Header) (log c : List ℕ) (e : h ≡ header_of log) (good : GoodL
   unfolding day_shape
   count_same small =
       ap (found_in (kinds_for h) (day_places h log c))
-      (sym (ids_length (text_of h) (contracts_part h log) (accounts_part h log) c ∙ size_is))
+      (sym (ids_length (text_of h) (contracts_part h log) (accounts_part h log) c ∙ size_is h log good))
       ∙ found_in_lem (day_shape h.rulebook) h.rulebook (day_places h log c) (ids_in (contracts_part h log))
       (members_in (accounts_part h log))
       ∙ same_count _ _ (day_same small)

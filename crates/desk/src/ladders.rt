@@ -1,19 +1,22 @@
 // Which contract, if any, reaches each ladder's number.
 ghost use Rattle.std.specs.Prelude.{◌≡◌, ◌≤◌, ◌<◌, length};
+ghost use Rattle.rules.specs.Kinds.{kinds_of};
 ghost use Rattle.tables.specs.Entries.{entries};
-ghost use Rattle.places.specs.Places.{ladders, cells};
-ghost use Rattle.desk.specs.End.{cells_good};
+ghost use Rattle.places.specs.Places.{ladders};
 ghost use Rattle.desk.specs.Way.{families_in, place_at, places_in};
 
-use places::{cells_in, kind_at};
-use rules::kinds::Kinds;
+use crate::judging::Judging;
+use crate::lowest::LowestPlaces;
+use places::{MOST_LADDERS, kind_at, ladders_in};
+use rules::kinds::kinds_of;
 use rules::ladder::family_of;
 use rules::measure::{Times, enough_of, is_reached};
 use rules::text::Text;
 use tables::contracts::contract_at;
 use wire::fill::fill_bytes;
 
-// The family of each contract, at its place.
+// Each contract's family, by its place, which is what `fill_bytes` hands over. positions has a twin but for the reader:
+// one function for both would take it as a closure, and promise of its runs what `fill_bytes` promises already.
 pub(crate) fn fill_families(text: Text, contracts: &[u8], fams: &mut [u8])
     requires { length fams.old ≡ entries contracts.now }
     ensures { fams.new ≡ families_in text contracts.now }
@@ -24,36 +27,45 @@ pub(crate) fn fill_families(text: Text, contracts: &[u8], fams: &mut [u8])
     });
 }
 
-// Goes up the contracts of the ladder's family, and stops at the first that reaches the number. Where none does it is
-// the number of contracts, as `lowest` of specs/Offences has it: the byte that is kept.
-fn place_at(text: Text, kinds: Kinds, fams: &[u8], counts: &[u32], ladder: usize) -> usize
-    requires { (length fams.now ≤ 32) × (cells kinds ≤ length counts.now) × (ladder < ladders kinds) }
-    ensures { (result ≡ place_at text kinds fams.now counts.now ladder) × (result ≤ length fams.now) }
-{
-    let number = enough_of(text, kind_at(kinds, ladder));
-    let family = (ladder % 16) as u8;
-    let from = ladder / 16 * 32;
-    let n = fams.len();
-    (0..n)
-        .find(|c| (fams[*c] == family) & is_reached(Times(counts[from + *c]), number))
-        .unwrap_or(n)
-}
+impl Judging<'_> {
+    // Goes up the contracts of the ladder's family, and stops at the first that reaches the number. Where none does it
+    // is the number of contracts, as `lowest` of specs/Offences has it: the byte that is kept. The ladder is a number,
+    // as in verdict: a type for it would hold its kinds.
+    fn place_at(&self, ladder: usize) -> usize
+        requires { ladder < ladders (kinds_of self.now.text.rulebook) }
+        ensures { (result ≡ place_at self.now.text (kinds_of self.now.text.rulebook) self.now.fams.now
+            self.now.counts.now ladder) × (result ≤ length self.now.fams.now) }
+    {
+        let kinds = kinds_of(self.text.rulebook as u64);
+        let number = enough_of(self.text, kind_at(kinds, ladder));
+        let family = (ladder % 16) as u8;
+        let from = ladder / 16 * 32;
+        let n = self.fams.len();
+        (0..n)
+            .find(|c| {
+                (self.fams[*c] == family) & is_reached(Times(self.counts[from + *c]), number)
+            })
+            .unwrap_or(n)
+    }
 
-// Each ladder's lowest place: every ladder is judged once.
-pub(crate) fn fill_places(text: Text, kinds: Kinds, fams: &[u8], counts: &[u32], places: &mut [u8])
-    requires { (length fams.now ≤ 32) × (cells kinds ≤ length counts.now) ×
-        (length places.old ≡ ladders kinds) }
-    ensures { places.new ≡ places_in text kinds fams.now counts.now }
-{
-    fill_bytes(places, |l| place_at(text, kinds, fams, counts, l) as u8);
-}
+    // Each ladder's lowest place: every ladder is judged once.
+    fn fill_places(&self, places: &mut [u8])
+        requires { length places.old ≡ ladders (kinds_of self.now.text.rulebook) }
+        ensures { places.new ≡ places_in self.now.text (kinds_of self.now.text.rulebook) self.now.fams.now
+            self.now.counts.now }
+    {
+        fill_bytes(places, |l| self.place_at(l) as u8);
+    }
 
-// No cell stands above the number of records taken.
-pub(crate) fn cells_good(kinds: Kinds, taken: u32, counts: &[u32]) -> bool
-    requires { cells kinds ≤ length counts.now }
-    ensures { result ≡ cells_good kinds taken counts.now }
-{
-    counts[..cells_in(kinds)]
-        .iter()
-        .all(|times| *times <= taken)
+    // The same, with room of its own.
+    #[tactic(auto, using(crate::proofs::LowestLaws::within_most), unfolding(rules::specs::Kinds::most_kinds))]
+    pub(crate) fn lowest_places(&self) -> LowestPlaces
+        ensures { result ≡ places_in self.now.text (kinds_of self.now.text.rulebook) self.now.fams.now
+            self.now.counts.now }
+    {
+        let used = ladders_in(kinds_of(self.text.rulebook as u64));
+        let mut all = [0u8; MOST_LADDERS];
+        self.fill_places(&mut all[..used]);
+        LowestPlaces { all, used }
+    }
 }

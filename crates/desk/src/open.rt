@@ -2,7 +2,8 @@
 ghost use Rattle.std.specs.Prelude.{◌≡◌, ◌++◌, ◌≤◌, length, drop, replicate};
 ghost use Rattle.wire.specs.Outcomes.{checked};
 ghost use Rattle.book.specs.Fits.{book_fault};
-ghost use Rattle.desk.specs.Open.{handed_fault, open_fault, OpenGives};
+ghost use Rattle.places.specs.Places.{cells};
+ghost use Rattle.desk.specs.Open.{kinds_for, handed_fault, open_fault, OpenGives};
 
 use crate::state::{Day, State};
 use book::fits::check_fits;
@@ -19,20 +20,29 @@ pub(crate) fn check_book(h: Header, book: &[u8]) -> Result<(), Refusal>
     check_fits(shape_of(book), h.rulebook, h.date, book)
 }
 
+// How many counts the day's rulebook has.
+pub(crate) fn cells_for(h: Header) -> usize
+    ensures { result ≡ cells (kinds_for h) }
+{
+    cells_in(kinds_of(h.rulebook as u64))
+}
+
 // The refusals of opening where no day is open, in their order.
+#[tactic(auto, using(crate::proofs::HandedLaws::opening), unfolding(crate::specs::Open::handed_fault))]
 fn check_handed(log: &[u8], book: &[u8], len: usize) -> Result<(), Refusal>
     ensures { result ≡ checked (handed_fault log.now book.now len) }
 {
     check_log(log)?;
     let head = header_of(log);
     check_book(head, book)?;
-    if len < cells_in(kinds_of(head.rulebook as u64)) {
+    if len < cells_for(head) {
         return Err(Refusal::CountsShort);
     }
     Ok(())
 }
 
 // Whether an opening with so many counts is refused: asked, and nothing written.
+#[tactic(auto, using(wire::proofs::ChosenLaws::chosen), unfolding(crate::specs::Open::open_fault))]
 pub fn would_open(state: State, log: &[u8], book: &[u8], len: usize) -> Result<(), Refusal>
     ensures { result ≡ checked (open_fault state log.now book.now len) }
 {
@@ -50,12 +60,13 @@ fn zero_first(c: &mut [u32], n: usize)
 }
 
 // Opens a day: zeroes the rulebook's counts and no more. A refusal leaves the counts and the state.
+#[tactic(auto, using(wire::proofs::ChosenLaws::chosen), unfolding(crate::specs::Open::zeroed))]
 pub fn open(state: State, log: &[u8], book: &[u8], counts: &mut [u32]) -> Result<State, Refusal>
     ensures { OpenGives state log.now book.now counts.old result
         counts.new }
 {
     would_open(state, log, book, counts.len())?;
     let head = header_of(log);
-    zero_first(counts, cells_in(kinds_of(head.rulebook as u64)));
+    zero_first(counts, cells_for(head));
     Ok(State::Open(Day { head, taken: 0 }))
 }

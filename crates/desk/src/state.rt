@@ -8,6 +8,8 @@ pub struct Day {
     pub taken: u32,
 }
 
+// Of the shape of an Option, and no plainer as one: demands and specs/ name `Closed` and `Open`, and where `end` and
+// `abandon` answer `Ok(State::Closed)` an `Ok(None)` would say less.
 #[derive(Clone, Copy)]
 pub enum State {
     Closed,

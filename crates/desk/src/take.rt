@@ -1,37 +1,13 @@
-// Taking a record: what the call is handed, the record against the tables, the counts.
+// Taking a record.
 ghost use Rattle.std.specs.Prelude.{◌≡◌};
-ghost use Rattle.wire.specs.Outcomes.{checked};
-ghost use Rattle.desk.specs.Take.{sizes_fault, day_weighed, would_take, PlanTaken, TakeGives};
+ghost use Rattle.desk.specs.Take.{would_take, PlanTaken, TakeGives};
 
+use crate::handed::Handed;
 use crate::state::{Day, State};
 use counts::cells::{check_plan, raise};
-use counts::weigh::{Plan, Reasons, weigh};
-use daylog::record::record_length;
-use places::cells_in;
+use counts::weigh::{Plan, Reasons};
 use rules::kinds::kinds_of;
 use wire::refusal::Refusal;
-
-// The record's length, and the number of counts.
-pub(crate) fn check_sizes(day: Day, row: &[u8], len: usize) -> Result<(), Refusal>
-    ensures { result ≡ checked (sizes_fault day row.now len) }
-{
-    let head = day.head;
-    if row.len() != record_length(head.version) {
-        return Err(Refusal::Length);
-    }
-    if len < cells_in(kinds_of(head.rulebook as u64)) {
-        return Err(Refusal::CountsShort);
-    }
-    Ok(())
-}
-
-// A record of an open day, before the counts are looked at.
-fn weigh_day(day: Day, log: &[u8], row: &[u8], len: usize) -> Result<(Plan, Reasons), Refusal>
-    ensures { result ≡ day_weighed day log.now row.now len }
-{
-    check_sizes(day, row, len)?;
-    weigh(day.head, log, row)
-}
 
 // What a record would count for and why it is spared: asked, and nothing written.
 pub fn would_take(
@@ -45,12 +21,15 @@ pub fn would_take(
     let State::Open(day) = state else {
         return Err(Refusal::WrongState);
     };
-    let (plan, why) = weigh_day(day, log, row, counts.len())?;
+    let len = counts.len();
+    let handed = Handed { day, log, row, len };
+    let (plan, why) = handed.weigh_day()?;
     check_plan(kinds_of(day.head.rulebook as u64), day.taken, plan, counts)?;
     Ok((plan, why))
 }
 
 // Counts a record of an open day, one more being taken. A refusal leaves the counts.
+#[tactic(auto, using(wire::proofs::ChosenLaws::chosen), unfolding(counts::specs::Cells::plan_fault))]
 fn count_record(
     day: Day,
     p: Plan,
@@ -82,6 +61,8 @@ pub fn take(
     let State::Open(day) = state else {
         return Err(Refusal::WrongState);
     };
-    let (plan, why) = weigh_day(day, log, row, counts.len())?;
+    let len = counts.len();
+    let handed = Handed { day, log, row, len };
+    let (plan, why) = handed.weigh_day()?;
     count_record(day, plan, why, counts)
 }

@@ -165,3 +165,6 @@ module _ (text : Text) (sort instruction purpose : ℕ) where
       let second = sym (unlisted (for_kind 2) e) in
       let third = sym (unlisted (for_kind 3) e) in
       λ i. record { own = first i; frequent = second i; over = third i }
+
+-- what proves a look-up
+pub ruleset looking = (in_lists, place_below, looked_up, unlisted, kinds_below, kinds_looked_up, kinds_unlisted)

@@ -6,9 +6,9 @@ use crate::lookup::{Codes, KIND_STEP, entry_of, is_listed, place_of};
 use crate::sheet::sheet;
 use rules::text::Text;
 
-// Numbers, and no enum: `clause_of`, `clauses_of` and `entry_of` promise just these (`clause`, `clauses`).
-// An order's clauses, for self-trade, frequent and large cancels.
-#[derive(Debug, Clone, Copy, PartialEq, Eq, Hash)]
+// An order's clauses, for self-trade, frequent and large cancels. Numbers and no enum: for every code `clause_of`
+// promises the number that `clause` of specs/Exemption gives, and the demands and the sheet speak of that number.
+#[derive(Debug, Clone, Copy, Default, PartialEq, Eq, Hash)]
 pub struct Clauses {
     pub own: u8,
     pub frequent: u8,
@@ -16,6 +16,7 @@ pub struct Clauses {
 }
 
 // The clause by which an order on a contract of a type is exempt for a kind of offence.
+#[tactic(auto, unfolding(crate::specs::Sheet::entry_of))]
 pub fn clause_of(text: Text, contract_type: u8, kind: u8, instruction: u8, purpose: u8) -> u8
     ensures { result ≡ clause text contract_type kind instruction purpose }
 {
@@ -29,6 +30,7 @@ pub fn clause_of(text: Text, contract_type: u8, kind: u8, instruction: u8, purpo
 }
 
 // The clauses for all kinds, with the table handed out once: the entries of one order stand a kind's step apart.
+#[tactic(auto, using(crate::proofs::SheetLaws::looking))]
 pub fn clauses_of(text: Text, contract_type: u8, instruction: u8, purpose: u8) -> Clauses
     ensures { result ≡ clauses text contract_type instruction purpose }
 {

@@ -5,9 +5,8 @@ ghost use Rattle.exemptions.specs.Sheet.{listed, place_of, codes_at, entry_of};
 use crate::sheet::sheet;
 use rules::text::{Text, is_rulebook};
 
-// Numbers, and no enums: `entry_of` promises an answer for every number, and an enum would ask more of callers.
 // What an entry is for: the text of the day, the contract's type, the kind of offence, the order's instruction and its
-// purpose.
+// purpose. Numbers and no enums: `entry_of` promises an answer for every number, so that no caller has to test one.
 #[derive(Debug, Clone, Copy, PartialEq, Eq, Hash)]
 pub struct Codes {
     pub text: Text,
@@ -21,6 +20,7 @@ pub struct Codes {
 pub(crate) const KIND_STEP: usize = 24;
 
 // Whether the table's lists have all of these codes.
+#[tactic(auto, unfolding(crate::specs::Sheet::listed))]
 pub(crate) fn is_listed(c: Codes) -> bool
     ensures { result ≡ listed c }
 {
@@ -32,6 +32,7 @@ pub(crate) fn is_listed(c: Codes) -> bool
 }
 
 // Where the entry of these codes stands, from 0.
+#[tactic(auto, unfolding(crate::specs::Sheet::place_of))]
 pub(crate) fn place_of(c: Codes) -> usize
     requires { (1 ≤ c.text.rulebook) × (1 ≤ c.sort) × (1 ≤ c.kind) × (1 ≤ c.instruction) × (1 ≤ c.purpose) }
     ensures { result ≡ place_of c }
@@ -42,6 +43,7 @@ pub(crate) fn place_of(c: Codes) -> usize
 }
 
 // The codes whose entry stands there. Past the last entry the table begins again.
+#[tactic(auto, unfolding(crate::specs::Sheet::codes_at))]
 pub fn codes_at(place: usize) -> Codes
     ensures { result ≡ codes_at place }
 {
@@ -57,6 +59,7 @@ pub fn codes_at(place: usize) -> Codes
 }
 
 // The entry of these codes. Those that no list has are exempt, and the table is not looked at.
+#[tactic(auto, using(crate::proofs::SheetLaws::looking))]
 pub fn entry_of(c: Codes) -> u8
     ensures { result ≡ entry_of c }
 {

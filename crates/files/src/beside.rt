@@ -31,7 +31,7 @@ fn make_like(file: &File, like: &Metadata) {
 }
 
 fn letter(x: u8) -> u8 {
-    LETTERS[(x % 62) as usize]
+    LETTERS[usize::from(x % 62)]
 }
 
 // A number's digits to the base of 62, the lowest first.
@@ -53,37 +53,31 @@ fn make_up(rt: &HostRuntime, letters: &mut [u8], tried: u32) {
     }
 }
 
-// Only where no file has the name, and only for its maker to read and write.
+// Only where no file has the name, and only for its maker to read and write. `create` of names gives other rights and
+// does not read; what the two share is std's, and one function for both would be handed all that tells them apart.
 fn create(rt: &HostRuntime, name: &[u8]) -> io::Result<File> {
     let mut how = OpenOptions::new();
     how.read(true).write(true).create_new(true).mode(0o600);
     how.open(rt, text_of(name)?)
 }
 
-// The letters from a place on are made up.
-fn create_tried(rt: &HostRuntime, name: &mut [u8], at: usize, tried: u32) -> io::Result<File>
-    requires { at ≤ length name.old }
-    ensures { length name.new ≡ length name.old }
-{
-    make_up(rt, &mut name[at..], tried);
-    create(rt, name)
-}
-
 fn is_taken(made: &io::Result<File>) -> bool {
     matches!(made, Err(e) if e.kind() == ErrorKind::AlreadyExists)
 }
 
-// Makes the letters from a place on up until they name a file that is new.
+// Makes the letters from a place on up until they name a file that is new. A loop: `name` is written anew at each try,
+// and the answer is the last try's, whatever it was.
 fn create_new(rt: &HostRuntime, name: &mut [u8], at: usize) -> io::Result<File>
     requires { at ≤ length name.old }
     ensures { length name.new ≡ length name.old }
 {
-    let mut made = create_tried(rt, name, at, 0);
-    for tried in 1..NAMES {
+    let mut made = Err(io::Error::from(ErrorKind::AlreadyExists));
+    for tried in 0..NAMES {
+        make_up(rt, &mut name[at..], tried);
+        made = create(rt, name);
         if !is_taken(&made) {
             break;
         }
-        made = create_tried(rt, name, at, tried);
     }
     made
 }

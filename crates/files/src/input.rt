@@ -55,6 +55,7 @@ fn read_some<R: Read>(from: &mut R, part: &mut [u8]) -> io::Result<usize>
 
 // Reads until the buffer is full, the input ends or a read fails. What came stands at the buffer's start, and no more
 // than that was taken. Of std's readers read_exact loses the count at a failure, and read_to_end wants a heap.
+#[tactic(auto, using(crate::proofs::Parts::more_taken))]
 pub fn fill<R: Read>(from: &mut R, buf: &mut [u8]) -> Got
     ensures count { result.count ≤ length buf.new }
     ensures bytes { Consumes (R.remaining from.old) (R.remaining from.new) (take result.count buf.new) }
@@ -98,6 +99,7 @@ fn fill_by_name(rt: &HostRuntime, path: &[u8], buf: &mut [u8]) -> io::Result<usi
 
 // Reads the file of that name as far as the room goes, and answers the bytes that came: none where there is no such
 // file, and none where it cannot be read or is no plain file: then the words are said, and why. Nobody is waited for.
+// No Result: it promises bytes, and what went wrong is said already.
 pub fn read_plain<'a>(rt: &HostRuntime, path: &[u8], room: &'a mut [u8], words: &[u8]) -> &'a [u8]
     ensures { length result.now ≤ length room.old }
 {

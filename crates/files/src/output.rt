@@ -12,7 +12,7 @@ use std::io;
 use std::io::{ErrorKind, Write, writer};
 
 // What a call answers, in the system's own way. They stay numbers and no Result: `Status` says which they may be, and
-// the edits failed_is_minus_two and done_is_one are of other numbers.
+// the edits failed_is_minus_two and done_is_one put other numbers here.
 pub const DONE: i32 = 0;
 
 pub const FAILED: i32 = -1;
@@ -34,7 +34,8 @@ fn write_some<W: Write>(to: &mut W, part: &[u8]) -> io::Result<usize>
 }
 
 // How many of the bytes went, from the first on: all, or fewer where a write failed, and then why. std's write_all
-// tells no count.
+// tells no count. `fill` goes the same way, and stands apart for the reason that `write_some` does.
+#[tactic(auto, using(crate::proofs::Parts::more_added))]
 pub fn put_all<W: Write>(to: &mut W, bytes: &[u8]) -> Got
     ensures count { result.count ≤ length bytes.now }
     ensures bytes { Appends (W.contents to.old) (W.contents to.new) (take result.count bytes.now) }

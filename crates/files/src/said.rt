@@ -1,6 +1,4 @@
 // What is said on standard error where a call of the system failed: some words, a colon and the system's reason.
-ghost use Rattle.std.specs.Prelude.{◌≤◌, length};
-
 use std::io;
 use std::io::{Cursor, Print, Write};
 
@@ -12,23 +10,17 @@ pub fn say(rt: &HostRuntime, words: &[u8]) {
     let _ = Print::write_all(&rt.stderr(), words);
 }
 
-// Where a reason's own words end: before the last bracket and the space in front of it, if there is one.
-fn words_end(text: &[u8]) -> usize
-    ensures { result ≤ length text.now }
-{
+// A reason's own words: those before the last bracket and the space in front of it, if there is one.
+fn own_words(text: &[u8]) -> &[u8] {
     match text.iter().rposition(|x| *x == b'(') {
-        Some(bracket) => bracket.saturating_sub(1),
-        None => text.len(),
+        Some(bracket) => &text[..bracket.saturating_sub(1)],
+        None => text,
     }
 }
 
 // A reason of the system's ends in its number, as " (os error 2)", which is left out.
 fn say_reason(rt: &HostRuntime, text: &[u8], is_numbered: bool) {
-    if is_numbered {
-        say(rt, &text[..words_end(text)]);
-    } else {
-        say(rt, text);
-    }
+    say(rt, if is_numbered { own_words(text) } else { text });
 }
 
 // As much of a room as was written, which ends at a place.

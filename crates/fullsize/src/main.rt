@@ -2,8 +2,6 @@
 // of all 128 groups has an offence. bench/run times it beside plain Rust.
 #![tactic(auto)]
 
-ghost use Rattle.std.specs.Prelude.{◌≤◌};
-
 use counts::weigh::Reasons;
 use daylog::header::header_of;
 use desk::books::fresh;
@@ -77,13 +75,11 @@ fn draw(row: &mut [u8], seed: u32) {
 
 // The sum of a record's clauses.
 fn clauses_in(why: Reasons) -> u64 {
-    order_sum(why.first) + order_sum(why.second)
+    u64::from(order_sum(why.first)) + u64::from(order_sum(why.second))
 }
 
-fn order_sum(order: Clauses) -> u64
-    ensures { result ≤ 765 }
-{
-    (order.own as u64) + (order.frequent as u64) + (order.over as u64)
+fn order_sum(order: Clauses) -> u16 {
+    u16::from(order.own) + u16::from(order.frequent) + u16::from(order.over)
 }
 
 // So many records taken: the sum of all clauses.
@@ -122,12 +118,12 @@ fn number_of(kind: usize) -> u32 {
     }
 }
 
-fn checksum(s: &[u8]) -> u64 {
+fn checksum(s: &[u8]) -> u32 {
     s.iter().fold(0, |h, x| step(h, *x))
 }
 
-fn step(h: u64, x: u8) -> u64 {
-    ((h % 4294967291) * 257 + (x as u64) + 1) % 4294967291
+fn step(h: u32, x: u8) -> u32 {
+    ((u64::from(h) * 257 + u64::from(x) + 1) % 4294967291) as u32
 }
 
 fn open_and_run(t: &[u8], b: &[u8], c: &mut [u32]) -> Result<u64, Refusal> {
@@ -135,7 +131,7 @@ fn open_and_run(t: &[u8], b: &[u8], c: &mut [u32]) -> Result<u64, Refusal> {
     run(state, t, c, 1000000)
 }
 
-// A 0 for no refusal, the sum of the counts and that of the clauses.
+// A 0 for no refusal, the sum of the counts and that of the clauses; a refusal, which never comes here, by its number.
 fn take_all(rt: &HostRuntime, t: &[u8], b: &[u8], c: &mut [u32]) {
     match open_and_run(t, b, c) {
         Ok(clauses) => {

@@ -5,7 +5,7 @@
 use files::names::{create, remove};
 use files::output::{flush_folder, put, store};
 use files::said::say;
-use office::said::{fail, message};
+use office::said::{ROOM, fail, message};
 use places::{MOST_BOOK, book_size};
 use positions::books::BOOK;
 use rules::kinds::kinds_of;
@@ -26,7 +26,8 @@ fn is_positions_asked(rt: &HostRuntime) -> bool {
     word_at(rt, 2, &mut room) == b"positions".as_slice()
 }
 
-// The file is made only where the name is free, so what is taken away after a failure is our own.
+// The file is made only where the name is free, so what is taken away after a failure is our own. Whether it went, and
+// no Result: what went wrong is said where it happens.
 fn make(rt: &HostRuntime, file: &[u8], book: &[u8]) -> bool {
     let made = match create(rt, file) {
         Ok(made) => made,
@@ -35,12 +36,15 @@ fn make(rt: &HostRuntime, file: &[u8], book: &[u8]) -> bool {
             return false;
         }
     };
-    let unwritten = message(b"newbook", file, b" cannot be written");
+    let mut room = [0u8; ROOM];
+    let unwritten = message(&mut room, b"newbook", file, b" cannot be written");
     if store(rt, made, book, unwritten.as_bytes()) < 0 {
         remove(rt, file);
         return false;
     }
+    let mut room = [0u8; ROOM];
     let unflushed = message(
+        &mut room,
         b"newbook",
         file,
         b" is made, its folder cannot be flushed to disk",
@@ -91,6 +95,7 @@ fn make_in(rt: &HostRuntime, rulebook: u64, book: &mut [u8]) {
     finish(rt, fresh, b"book.axb", book);
 }
 
+#[tactic(auto, using(rules::proofs::KindLaws::kinds_most), unfolding(rules::specs::Kinds::most_kinds))]
 fn make_offences(rt: &HostRuntime, rulebook: u64) {
     let size = book_size(kinds_of(rulebook));
     let mut book = [0u8; MOST_BOOK];

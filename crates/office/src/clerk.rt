@@ -1,7 +1,8 @@
 // Whose office it is: a program, with its book's file and its heading's mark, and what it says of that file.
 ghost use Rattle.files.specs.Status.{Status};
 
-use crate::said::{ROOM, fail, message, warn};
+use crate::said::{ROOM, fail, message};
+use files::said::say;
 use std::io;
 use words::line::Line;
 
@@ -14,8 +15,8 @@ pub struct Clerk<'a> {
 }
 
 impl Clerk<'_> {
-    pub(crate) fn message(self, words: &[u8]) -> Line<ROOM> {
-        message(self.who, self.file, words)
+    pub(crate) fn message<'a>(self, room: &'a mut [u8], words: &[u8]) -> Line<'a> {
+        message(room, self.who, self.file, words)
     }
 
     // It answers as `said::fail` does.
@@ -25,7 +26,9 @@ impl Clerk<'_> {
         fail(rt, self.who, self.file, words, why)
     }
 
+    // Says it by itself: the words have the line's end.
     pub(crate) fn warn(self, rt: &HostRuntime, words: &[u8]) {
-        warn(rt, self.who, self.file, words);
+        let mut room = [0u8; ROOM];
+        say(rt, self.message(&mut room, words).as_bytes());
     }
 }

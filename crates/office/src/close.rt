@@ -1,4 +1,5 @@
 // How a clerk's run ends: with the day's findings and the new book, or with a refusal.
+ghost use Rattle.std.specs.Prelude.{◌≡◌, ◌++◌, take, codes, length};
 ghost use Rattle.files.specs.Status.{Status};
 
 use crate::clerk::Clerk;
@@ -7,6 +8,7 @@ use crate::lines::write_count;
 use crate::print::print_day;
 use files::names::remove;
 use files::output::{DONE, FAILED};
+use wire::refusal::Refusal;
 use words::line::Line;
 
 // Room for the name of a file beside the book.
@@ -23,12 +25,14 @@ pub struct Day<'a> {
     pub found: usize,
 }
 
-// The name of a file beside the book, whose last six letters are made up when the file is made.
-fn name_beside(file: &[u8]) -> Line<NAME> {
-    let mut name = Line::new();
+// The name of a file beside the book, in a room that is lent. Its last six letters are made up when the file is made.
+fn name_beside<'a>(room: &'a mut [u8], file: &[u8]) -> &'a mut [u8]
+    ensures { result.now ≡ take (length room.old) (file.now ++ codes ".new.XXXXXX") }
+{
+    let mut name = Line::new(room);
     name.add_text(file);
     name.add_text(b".new.XXXXXX");
-    name
+    name.into_bytes()
 }
 
 // The new book is ready, in a file of that name, before the findings go out, and takes the old one's place after them:
@@ -56,10 +60,8 @@ fn finish_by(rt: &HostRuntime, clerk: Clerk, day: Day, name: &mut [u8]) -> bool 
 pub fn finish(rt: &HostRuntime, clerk: Clerk, day: Day) -> i32
     ensures { Status result }
 {
-    let beside = name_beside(clerk.file);
     let mut room = [0u8; NAME];
-    let name = &mut room[..beside.as_bytes().len()];
-    name.copy_from_slice(beside.as_bytes());
+    let name = name_beside(&mut room, clerk.file);
     if finish_by(rt, clerk, day, name) {
         DONE
     } else {
@@ -73,4 +75,15 @@ pub fn refuse(rt: &HostRuntime, who: &[u8], number: u32) -> i32
     ensures { Status result }
 {
     write_count(rt, who, b"refused ", number as u64)
+}
+
+// The end of a run: of a day that was judged its findings and the new book, of one that was refused the refusal. It
+// answers as `finish` and `refuse` do.
+pub fn close(rt: &HostRuntime, clerk: Clerk, day: Result<Day, Refusal>) -> i32
+    ensures { Status result }
+{
+    match day {
+        Ok(day) => finish(rt, clerk, day),
+        Err(refusal) => refuse(rt, clerk.who, refusal.number()),
+    }
 }

@@ -8,7 +8,8 @@ use files::input::{Got, fill};
 // The longest header with tables: 32 contracts and 512 accounts.
 pub const TABLES: usize = 4368;
 
-// The type of the end record, which ends a day log's reading.
+// The type of the end record, which ends a day log's reading: the byte as it comes, and no enum, since any byte may
+// come, and `end_good` of daylog tests the record itself.
 pub const END: u8 = 3;
 
 // More turns than that takes: each takes a record or is the last, and the 1,000,001st record is refused.
@@ -45,7 +46,7 @@ fn tables_size(head: &[u8]) -> Option<usize>
 }
 
 // Reads the header and its tables, as far as they are there, and answers the bytes that came: none into a room that is
-// not just the longest's.
+// not just the longest's. No Result: it promises bytes, and opening refuses a log that is cut off.
 pub fn read_tables<'a>(rt: &HostRuntime, who: &[u8], room: &'a mut [u8]) -> &'a [u8]
     ensures { length result.now ≤ length room.old }
 {

@@ -1,9 +1,10 @@
 // The book's file, in the working folder: read, and replaced by a rename, so that it is always the old book or the new
-// one.
+// one. What can fail here answers whether it went, and no Result: what went wrong is said where it happens, in its
+// words.
 ghost use Rattle.std.specs.Prelude.{◌≤◌, length};
 
 use crate::clerk::Clerk;
-use crate::said::fail;
+use crate::said::{ROOM, fail};
 use files::beside::make_beside;
 use files::input::read_plain;
 use files::names::{remove, rename};
@@ -14,18 +15,23 @@ use places::MOST_BOOK;
 pub const FILE: usize = MOST_BOOK + 1;
 
 // Reads the book and answers its bytes: all the room where the file is longer, and none where it is not there or cannot
-// be read.
+// be read: no Result, as `read_plain` says.
 pub fn read_book<'a>(rt: &HostRuntime, clerk: Clerk, room: &'a mut [u8]) -> &'a [u8]
     ensures { length result.now ≤ length room.old }
 {
-    let unread = clerk.message(b" cannot be read");
+    let mut said = [0u8; ROOM];
+    let unread = clerk.message(&mut said, b" cannot be read");
     read_plain(rt, clerk.file, room, unread.as_bytes())
 }
 
 // Makes the new book ready in a file of this clerk's own, beside the book: `name` ends in XXXXXX, which is made up. It
 // is done before anything is printed, so that a full disk is said instead of findings.
 pub(crate) fn make_ready(rt: &HostRuntime, clerk: Clerk, name: &mut [u8], new: &[u8]) -> bool {
-    let unwritten = clerk.message(b" is left as it was, the file beside it cannot be written");
+    let mut said = [0u8; ROOM];
+    let unwritten = clerk.message(
+        &mut said,
+        b" is left as it was, the file beside it cannot be written",
+    );
     match make_beside(rt, name, clerk.file) {
         Err(why) => {
             clerk.fail(
@@ -53,7 +59,11 @@ fn holds(rt: &HostRuntime, clerk: Clerk, book: &[u8]) -> bool {
 
 // Whether the folder could be flushed; if not, it is said.
 fn see_folder(rt: &HostRuntime, clerk: Clerk) -> bool {
-    let unflushed = clerk.message(b" is the new book, its folder cannot be flushed to disk");
+    let mut said = [0u8; ROOM];
+    let unflushed = clerk.message(
+        &mut said,
+        b" is the new book, its folder cannot be flushed to disk",
+    );
     flush_folder(rt, unflushed.as_bytes()) == DONE
 }
 

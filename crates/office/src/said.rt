@@ -1,20 +1,21 @@
-// What is said on standard error: who says it, what of, and the words after that.
-ghost use Rattle.std.specs.Prelude.{◌≡◌, ◌++◌, take, codes};
+// What is said on standard error: who says it, what of, and the words after that. The three go by themselves, since
+// programs that are no clerk's say something too; what a clerk says of its book goes by its `Clerk`.
+ghost use Rattle.std.specs.Prelude.{◌≡◌, ◌++◌, take, codes, length};
 ghost use Rattle.files.specs.Status.{Status};
 
 use files::output::FAILED;
-use files::said::say;
 use std::io;
 use words::line::Line;
 
 // Room for the longest that a program here says.
 pub const ROOM: usize = 128;
 
-// Some calls are handed a message to say if they fail.
-pub fn message(who: &[u8], of: &[u8], words: &[u8]) -> Line<ROOM>
-    ensures { result ≡ take 128 (who.now ++ codes ": " ++ of.now ++ words.now) }
+// The message in a room that is lent, of any length: some calls are handed one to say if they fail.
+pub fn message<'a>(room: &'a mut [u8], who: &[u8], of: &[u8], words: &[u8]) -> Line<'a>
+    ensures said { result.bytes ≡ take (length room.old) (who.now ++ codes ": " ++ of.now ++ words.now) }
+    ensures size { result.room ≡ length room.old }
 {
-    let mut line = Line::new();
+    let mut line = Line::new(room);
     line.add_text(who);
     line.add_text(b": ");
     line.add_text(of);
@@ -27,11 +28,8 @@ pub fn message(who: &[u8], of: &[u8], words: &[u8]) -> Line<ROOM>
 pub fn fail(rt: &HostRuntime, who: &[u8], of: &[u8], words: &[u8], why: &io::Error) -> i32
     ensures { Status result }
 {
-    files::said::fail(rt, message(who, of, words).as_bytes(), why);
+    let mut room = [0u8; ROOM];
+    let line = message(&mut room, who, of, words);
+    files::said::fail(rt, line.as_bytes(), why);
     FAILED
-}
-
-// Says it by itself: the words have the line's end.
-pub(crate) fn warn(rt: &HostRuntime, who: &[u8], of: &[u8], words: &[u8]) {
-    say(rt, message(who, of, words).as_bytes());
 }

@@ -10,8 +10,8 @@ use Rattle.wire.proofs.ChoiceLaws.{and_left, and_right, and_yes, same_test}
 use Rattle.rules.specs.declared.kinds.Kinds.{Kinds}
 use Rattle.rules.specs.declared.kinds.Kinds.TheVariants.{One, Three, Four}
 use Rattle.rules.specs.Kinds.{kinds_in, first_kind}
-use Rattle.rules.proofs.KindLaws.{few, first_low}
-use Rattle.places.specs.Places.{ladders, group_ladders, book_size, group_size, cells}
+use Rattle.rules.proofs.KindLaws.{few}
+use Rattle.places.specs.Places.{ladders, book_size, group_size, cells}
 use Rattle.places.specs.Places.{ladder_of, group_at, kind_at, family_at, cell_of, HasRow, HasLadder, HasCell}
 
 -- ---- a ladder is that of its group, kind and family
@@ -40,9 +40,6 @@ row_at k l h = record {
   least_kind = omega arith;
   last_kind = kind_low k l;
 }
-
-pub ladder_at : (k : Kinds) (l : ℕ) → l < ladders k → HasLadder k (group_at k l) (kind_at k l) (family_at l)
-ladder_at k l h = record { row = row_at k l h; last_family = omega arith }
 
 -- ---- a group, kind and family that have a ladder are its own
 pub ladder_there : (k : Kinds) (g kd f : ℕ) → HasRow k g kd → f ≤ 15 → ladder_of k g kd f < ladders k
@@ -152,40 +149,13 @@ parts_there One n h = omega arith
 parts_there Three n h = omega arith
 parts_there Four n h = omega arith
 
-pub group_ladders_lem : (k : Kinds) (g : ℕ) → g < 128 → group_ladders k * g + group_ladders k ≤ ladders k
-unfolding kinds_in
-group_ladders_lem One g h = omega arith
-group_ladders_lem Three g h = omega arith
-group_ladders_lem Four g h = omega arith
-
-pub part_begins : (k : Kinds) (g j : ℕ) → 16 + group_size k * g + 2 * j ≡ 16 + 2 * (group_ladders k * g + j)
-unfolding kinds_in
-part_begins One g j = omega arith
-part_begins Three g j = omega arith
-part_begins Four g j = omega arith
-
 -- ---- bounds for the code
 pub ladder_few : (k : Kinds) (g kd f : ℕ) → HasLadder k g kd f → ladder_of k g kd f < 8192
 ladder_few k g kd f h = omega (arith, (few k).1, ladder_there k g kd f h.row h.last_family)
 
--- n is what `kinds_in` or `first_kind` gave
+-- n is what `kinds_in` gave
 pub few_times : (k : Kinds) (n x : ℕ) → n ≡ kinds_in k → x * n ≤ 4 * x
 unfolding kinds_in
 few_times One n x e = rw e (omega arith)
 few_times Three n x e = rw e (omega arith)
 few_times Four n x e = rw e (omega arith)
-
-pub few_first : (k : Kinds) (n : ℕ) → n ≡ first_kind k → n ≤ 5
-few_first k n e = rw e (first_low k).1
-
-pub few_groups : (k : Kinds) (n l : ℕ) → n ≡ kinds_in k → l / (16 * n) ≤ l / 16
-unfolding kinds_in
-few_groups One n l e = rw e (omega arith)
-few_groups Three n l e = rw e (omega arith)
-few_groups Four n l e = rw e (omega arith)
-
-pub few_kinds : (k : Kinds) (n x : ℕ) → n ≡ kinds_in k → x % n < 4
-unfolding kinds_in
-few_kinds One n x e = rw e (omega arith)
-few_kinds Three n x e = rw e (omega arith)
-few_kinds Four n x e = rw e (omega arith)

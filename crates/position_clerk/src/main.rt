@@ -5,7 +5,7 @@
 ghost use Rattle.std.specs.Prelude.{◌≡◌, length};
 
 use office::clerk::Clerk;
-use office::close::{Day, finish, refuse};
+use office::close::{Day, close};
 use office::input::fill_from_input;
 use office::keep::read_book;
 use positions::books::{BOOK, FINDINGS};
@@ -23,23 +23,18 @@ const CLERK: Clerk = Clerk {
     mark: b"AXP ",
 };
 
+// The clerk has a `run` and a `main` like these, and says there why they are not one.
 fn run(rt: &HostRuntime, log: &[u8], old: &[u8], book: &mut [u8]) {
     let mut findings = [0u8; FINDINGS];
-    match judge(log, book, &mut findings) {
-        Err(refusal) => {
-            refuse(rt, CLERK.who, refusal.number());
-        }
-        Ok(found) => {
-            let day = Day {
-                log,
-                old,
-                new: book,
-                findings: &findings,
-                found,
-            };
-            finish(rt, CLERK, day);
-        }
-    }
+    let judged = judge(log, book, &mut findings);
+    let day = judged.map(|found| Day {
+        log,
+        old,
+        new: book,
+        findings: &findings,
+        found,
+    });
+    close(rt, CLERK, day);
 }
 
 // Room for a log.
@@ -49,6 +44,7 @@ fn room() -> [u8; LOG]
     [0; LOG]
 }
 
+// A position log is read whole before it is judged.
 fn main(rt: HostRuntime) {
     let mut last = [0u8; FILE];
     let old = read_book(&rt, CLERK, &mut last);

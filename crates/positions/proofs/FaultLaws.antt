@@ -6,8 +6,12 @@ use Prim.Native.Nat.{ℕ, ◌≤◌}
 use native.Mathlib.Omega.{arith}
 use borrow.Author.Tests.{leb-true, eqb-true, not-false}
 use lib.Dec.{lit<, leb, eqb}
+use Rattle.std.specs.Prelude.{Err}
+use Rattle.wire.specs.declared.refusal.Refusal.TheVariants.{PositionLog}
+use Rattle.wire.specs.Outcomes.{checked}
+use Rattle.wire.proofs.RefusalLaws.{refuse, accept}
 use Rattle.wire.specs.Choice.{within}
-use Rattle.wire.proofs.ChoiceLaws.{pick_zero, pick_le, and_left, and_right, bounds, or_none, or_most}
+use Rattle.wire.proofs.ChoiceLaws.{chain, pick_zero, pick_le, and_left, and_right, bounds, or_none, or_most}
 use Rattle.rules.specs.Codes.{is_rulebook}
 use Rattle.calendar.specs.Dates.{real_day}
 use Rattle.daylog.specs.Header.{header_of}
@@ -72,3 +76,9 @@ log_most log =
     (pick_le _ 22 _ 22 (omega arith)
     (pick_le _ 22 0 22 (omega arith) (omega arith)))))))
     (pick_le _ 22 0 22 (omega arith) (omega arith))
+
+-- ---- the one refusal of a log, and what proves each return of its checks
+pub log_bad : (fault : ℕ) → 22 ≡ fault → Err PositionLog ≡ checked fault
+log_bad fault e = refuse PositionLog tt e
+
+pub ruleset checks = (log_bad, accept, chain)

@@ -6,7 +6,7 @@ use Prim.Native.Nat.{ℕ, ◌<◌, ◌≤◌}
 use lib.ListN.{length, get_or}
 use Rattle.std.specs.Prelude.{Result, Ok, Err}
 use Rattle.wire.specs.declared.refusal.Refusal.{Refusal}
-use Rattle.wire.specs.Outcomes.{refused, checked, Outcome}
+use Rattle.wire.specs.Outcomes.{answered, refused, checked, Outcome}
 use Rattle.wire.proofs.ChoiceLaws.{or_else_lem, or_most}
 use Rattle.wire.proofs.AnswerLaws.{then_by}
 use Rattle.wire.proofs.RefusalLaws.{keep_on}
@@ -37,9 +37,10 @@ judge_most log book room =
     (or_most _ _ 22 (fits_most position_shape _ _ book) (short_most (log_verdict log) room))
 
 module _ (log book out : List ℕ) where
-  pub log_refused : {r : Refusal} → Err r ≡ checked (log_fault log) → JudgeGives log book out (Err r) book out
+  pub log_refused : {A : Type 0} (a : A) {r : Refusal} → Err r ≡ answered (log_fault log) (Ok a) refused
+      → JudgeGives log book out (Err r) book out
   unfolding judge_fault
-  log_refused e = keep_on tt _ (log_fault log) _ e
+  log_refused a e = keep_on a _ (log_fault log) _ e
 
   module _ (h : Header) (is : h ≡ header_of log) (fine : log_fault log ≡ 0) where
     -- the book's refusal, in the words of the code

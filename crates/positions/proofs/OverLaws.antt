@@ -9,9 +9,11 @@ use lib.ListN.{get_or}
 use Rattle.wire.proofs.ChoiceLaws.{and_no}
 use Rattle.rules.specs.declared.text.Text.{Text}
 use Rattle.places.specs.Places.{family_at}
+use Rattle.positions.specs.declared.contracts.Limited.{Limited}
 use Rattle.positions.specs.LimitEntries.{limited_at}
 use Rattle.positions.specs.Offences.{over_either}
 use Rattle.positions.specs.Way.{over_at}
+use Rattle.positions.proofs.EntryLaws.{limited_here}
 
 module _ (text : Text) (contracts fams longs shorts : List ℕ) (ladder : ℕ) where
   abbrev pub overs : ℕ → Bool
@@ -22,9 +24,11 @@ module _ (text : Text) (contracts fams longs shorts : List ℕ) (ladder : ℕ) w
   unfolding over_at
   over_not c n = sym (and_no (eqb (get_or fams c 0) (family_at ladder)) _ (ne_eqb _ _ n))
 
-  pub over_is : (c : ℕ) (r : Bool) → get_or fams c 0 ≡ family_at ladder
-      → r ≡ over_either text (limited_at contracts c) (get_or longs (ladder / 16 * 32 + c) 0)
-      (get_or shorts (ladder / 16 * 32 + c) 0)
+  pub over_is : (c : ℕ) (r : Bool) {entry : Limited} → get_or fams c 0 ≡ family_at ladder
+      → entry ≡ limited_at contracts c
+      → r ≡ over_either text entry (get_or longs (ladder / 16 * 32 + c) 0) (get_or shorts (ladder / 16 * 32 + c) 0)
       → r ≡ overs c
   unfolding over_at
-  over_is c r e is = rw (eq-eqb (get_or fams c 0) (family_at ladder) e) is
+  over_is c r e own is = rw (eq-eqb (get_or fams c 0) (family_at ladder) e, ← own) is
+
+pub ruleset over = (over_not, over_is, limited_here)

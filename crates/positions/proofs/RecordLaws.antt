@@ -11,7 +11,7 @@ use lib.ListN.{length, get_or, replicate}
 use Rattle.std.specs.Simd.{first_chunks}
 use Rattle.wire.specs.Below.{every}
 use Rattle.wire.proofs.ByteLaws.{four_low}
-use Rattle.wire.proofs.ChoiceLaws.{pick_yes, and_left, and_right}
+use Rattle.wire.proofs.ChoiceLaws.{pick_yes, and_right}
 use Rattle.wire.proofs.BelowLaws.{every_fails}
 use Rattle.rules.specs.declared.kinds.Kinds.TheVariants.{One}
 use Rattle.rules.specs.declared.measure.Lots.{Lots}
@@ -24,7 +24,9 @@ use Rattle.positions.specs.declared.records.Position.{Position}
 use Rattle.positions.specs.LimitEntries.{limit_count, limited_at, limit_place}
 use Rattle.positions.specs.Records.{record_count, position_at, contract_before, account_before, fields_good, good_at}
 use Rattle.positions.specs.Records.{records_good}
-use Rattle.positions.specs.Way.{added_in, cell_at, side_to}
+use Rattle.positions.specs.Way.{added_in, cell_at, side_to, long_to, short_to}
+use Rattle.positions.specs.Sums.{sums_of}
+use Rattle.positions.specs.declared.sums.Sums.{Sums}
 use Rattle.positions.proofs.EntryLaws.{position_here}
 use Rattle.positions.proofs.SumLaws.{summed_none, summed_more, summed_most}
 
@@ -97,11 +99,6 @@ module _ (contracts accounts records : List ℕ) (good : accounts_good accounts 
     pub turn_good : not tested ≡ false → good_at contracts accounts records k ≡ true
     turn_good e = sym tests ∙ not-false tested e
 
-    pub turn_place : not tested ≡ false → place < limit_count contracts
-    turn_place e =
-        ltb-true _ _
-        (and_right fields _ (and_left (fields && ltb place (limit_count contracts)) _ (not-false tested e)))
-
     -- the cell of the record
     pub turn_cell : not tested ≡ false → (group : ℕ) → group ≡ get_or entry 4 0
         → cell_of One group 5 place ≡ cell_at contracts accounts records k
@@ -142,11 +139,18 @@ module _ (contracts accounts records : List ℕ) (good : accounts_good accounts 
 
   -- ---- all records
   pub all_bad : (k : ℕ) → k < record_count records → good_at contracts accounts records k ≡ false
-      → false ≡ records_good contracts accounts records
+      → records_good contracts accounts records ≡ false
   unfolding records_good
-  all_bad k h e = sym (every_fails (good_at contracts accounts records) k (record_count records) h e)
+  all_bad k h e = every_fails (good_at contracts accounts records) k (record_count records) h e
 
   pub all_good : (k : ℕ) → k ≡ record_count records → every (good_at contracts accounts records) k ≡ true
-      → true ≡ records_good contracts accounts records
+      → records_good contracts accounts records ≡ true
   unfolding records_good
-  all_good k e t = sym t ∙ ap (every (good_at contracts accounts records)) e
+  all_good k e t = sym (ap (every (good_at contracts accounts records)) e) ∙ t
+
+  pub sums_all : (s : Sums) (k : ℕ) → k ≡ record_count records → s.longs ≡ long_to contracts accounts records k
+      → s.shorts ≡ short_to contracts accounts records k → s ≡ sums_of contracts accounts records
+  sums_all s k e long short =
+      let l = long ∙ ap (long_to contracts accounts records) e in
+      let r = short ∙ ap (short_to contracts accounts records) e in
+      λ i. record { longs = l i; shorts = r i }

@@ -6,4 +6,5 @@ pub mod GoodPositions
 pub mod Offences
 pub mod Judge
 pub mod Way
+pub mod Sums
 pub mod Judging

@@ -14,6 +14,7 @@ pub const BOOK: usize = 4112;
 pub const FINDINGS: usize = 16384;
 
 // "AXQ", with one kind, 5.
+#[tactic(auto, unfolding(crate::specs::Books::position_shape))]
 pub fn position_shape() -> Shape
     ensures { result ≡ position_shape }
 {

@@ -16,6 +16,7 @@ pub struct Limited {
     pub spare: u32,
 }
 
+#[tactic(auto, unfolding(crate::specs::LimitEntries::limited_at))]
 pub(crate) fn limit_of(entry: &[u8; 16]) -> Limited
     ensures { result ≡ limited_at entry.now 0 }
 {
@@ -56,8 +57,8 @@ pub(crate) fn limits_good(part: &[u8]) -> bool
     good
 }
 
-// The place of a contract id, or the number of entries where it is not there: no Option, as `limit_place` of specs is
-// that number.
+// The place of a contract id, or the number of entries where it is not there: no Option, as `next_place` carries it on
+// from record to record, and `cell_at` of specs/Way counts by it.
 pub(crate) fn limit_place(part: &[u8], id: u16) -> usize
     ensures { result ≡ limit_place (limited_at part.now) (limit_count part.now) id }
 {

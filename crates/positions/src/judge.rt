@@ -1,7 +1,7 @@
 // Judging a position log: checked and summed in one pass, then settled on its book.
-ghost use Rattle.std.specs.Prelude.{◌≡◌, [], length, replicate};
+ghost use Rattle.std.specs.Prelude.{◌≡◌, [], length};
 ghost use Rattle.rules.specs.declared.kinds.Kinds.TheVariants.{One};
-ghost use Rattle.places.specs.Places.{ladders, cells};
+ghost use Rattle.places.specs.Places.{ladders};
 ghost use Rattle.verdict.specs.Verdict.{verdict_in};
 ghost use Rattle.verdict.specs.Settle.{SettleGives};
 ghost use Rattle.daylog.specs.Header.{header_of, text_of};
@@ -13,9 +13,9 @@ ghost use Rattle.positions.specs.Judge.{JudgeGives};
 
 use crate::books::position_shape;
 use crate::judging::Judging;
-use crate::log::read_log;
+use crate::log::{accounts_part, limits_part, read_log};
 use crate::offences::{fill_families, fill_ids};
-use crate::sums::{Sums, add_sizes};
+use crate::sums::{Sums, sizes_in};
 use book::fits::check_fits;
 use daylog::header::{Header, header_of, text_of};
 use verdict::ruling::Ruling;
@@ -27,15 +27,11 @@ fn judge_places(h: Header, log: &[u8], sums: &Sums, places: &mut [u8])
     ensures { places.new ≡ places_in (text_of h) (limits_part h log.now) (families_in (text_of h)
         (limits_part h log.now)) sums.now.longs sums.now.shorts (sizes_in (accounts_part h log.now)) }
 {
-    let n = h.contracts as usize;
-    let middle = 16 + 16 * n;
-    let end = middle + 8 * (h.accounts as usize);
-    let contracts = &log[16..middle];
+    let contracts = limits_part(h, log);
     let text = text_of(h);
-    let mut sizes = [0u64; 129];
-    add_sizes(&log[middle..end], &mut sizes);
+    let sizes = sizes_in(accounts_part(h, log));
     let mut room = [0u8; 32];
-    let fams = &mut room[0..n];
+    let fams = &mut room[0..contracts.len() / 16];
     fill_families(text, contracts, fams);
     let judging = Judging {
         text,
@@ -49,6 +45,7 @@ fn judge_places(h: Header, log: &[u8], sums: &Sums, places: &mut [u8])
 
 // A log without fault, on a book that fits it: judged by its sums and settled. A member changes no sanction: none is
 // told of.
+#[tactic(auto, unfolding(rules::specs::Kinds::kinds_in))]
 fn settle_log(
     h: Header,
     log: &[u8],
@@ -63,48 +60,28 @@ fn settle_log(
         (limits_part h log.now)) []) h.date book.old out.old result
         book.new out.new }
 {
-    let n = h.contracts as usize;
-    let contracts = &log[16..16 + 16 * n];
+    let contracts = limits_part(h, log);
     let mut places = [0u8; 2048];
     judge_places(h, log, sums, &mut places);
     let mut room = [0u8; 64];
-    let ids = &mut room[0..2 * n];
+    let ids = &mut room[0..2 * (contracts.len() / 16)];
     fill_ids(contracts, ids);
     let ruling = Ruling {
         shape: position_shape(),
         rulebook: h.rulebook,
         places: &places,
         ids,
-        members: &contracts[0..0],
+        members: &[],
     };
     ruling.settle(h.date, book, out)
 }
 
-// The refusals of the log and of the book in their order, or the day written.
-fn judge_sums(
-    log: &[u8],
-    sums: &mut Sums,
-    book: &mut [u8],
-    out: &mut [u8],
-) -> Result<usize, Refusal>
-    requires { (sums.old.longs ≡ replicate (cells One) 0) × (sums.old.shorts ≡ replicate (cells One) 0) }
-    ensures { JudgeGives log.now book.old out.old result book.new
-        out.new }
-{
-    read_log(log, sums)?;
-    let h = header_of(log);
-    check_fits(position_shape(), h.rulebook, h.date, book)?;
-    settle_log(h, log, sums, book, out)
-}
-
 // Judges a position log: writes the findings and the book, or refuses and leaves both.
 pub fn judge(log: &[u8], book: &mut [u8], out: &mut [u8]) -> Result<usize, Refusal>
-    ensures { JudgeGives log.now book.old out.old result book.new
-        out.new }
+    ensures { JudgeGives log.now book.old out.old result book.new out.new }
 {
-    let mut sums = Sums {
-        longs: [0; 4096],
-        shorts: [0; 4096],
-    };
-    judge_sums(log, &mut sums, book, out)
+    let sums = read_log(log)?;
+    let h = header_of(log);
+    check_fits(position_shape(), h.rulebook, h.date, book)?;
+    settle_log(h, log, &sums, book, out)
 }

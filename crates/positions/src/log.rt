@@ -1,11 +1,10 @@
 // The position log: its header and tables checked, and its records summed.
-ghost use Rattle.std.specs.Prelude.{◌≡◌, ◌≤◌, length, replicate};
-ghost use Rattle.wire.specs.Outcomes.{checked};
-ghost use Rattle.rules.specs.declared.kinds.Kinds.TheVariants.{One};
-ghost use Rattle.places.specs.Places.{cells};
+ghost use Rattle.std.specs.Prelude.{◌≡◌, Ok};
+ghost use Rattle.wire.specs.Outcomes.{answered, refused, checked};
 ghost use Rattle.daylog.specs.Header.{header_of};
+ghost use Rattle.positions.specs.Log.{accounts_from, records_from, limits_part, accounts_part, records_part};
 ghost use Rattle.positions.specs.Log.{head_good, tables_fault, front_fault, log_fault};
-ghost use Rattle.positions.specs.Way.{long_in, short_in};
+ghost use Rattle.positions.specs.Sums.{sums_in};
 
 use crate::contracts::limits_good;
 use crate::sums::{Sums, add_records};
@@ -29,26 +28,60 @@ fn head_good(h: Header) -> bool
         & (h.spare <= 16384)
 }
 
+// Where the accounts begin, and where the records begin.
+fn accounts_from(h: Header) -> usize
+    ensures { result ≡ accounts_from h }
+{
+    16 + 16 * (h.contracts as usize)
+}
+
+fn records_from(h: Header) -> usize
+    ensures { result ≡ records_from h }
+{
+    accounts_from(h) + 8 * (h.accounts as usize)
+}
+
+// Each part of a log, as far as the log goes. Header and log go side by side, as `limits_part` and the others of
+// specs/Log take them; a struct of both would stand between the code and these.
+pub(crate) fn limits_part(h: Header, log: &[u8]) -> &[u8]
+    ensures { result.now ≡ limits_part h log.now }
+{
+    let rest = log.get(16..).unwrap_or(&[]);
+    rest.get(..16 * (h.contracts as usize)).unwrap_or(rest)
+}
+
+pub(crate) fn accounts_part(h: Header, log: &[u8]) -> &[u8]
+    ensures { result.now ≡ accounts_part h log.now }
+{
+    let rest = log.get(accounts_from(h)..).unwrap_or(&[]);
+    rest.get(..8 * (h.accounts as usize)).unwrap_or(rest)
+}
+
+fn records_part(h: Header, log: &[u8]) -> &[u8]
+    ensures { result.now ≡ records_part h log.now }
+{
+    log.get(records_from(h)..).unwrap_or(&[])
+}
+
 // The whole length, and each table's part of the log handed to its own check.
+#[tactic(auto, using(crate::proofs::FaultLaws::checks), unfolding(crate::specs::Log::tables_fault))]
 fn check_tables(h: Header, log: &[u8]) -> Result<(), Refusal>
-    requires { 16 ≤ length log.now }
     ensures { result ≡ checked (tables_fault h log.now) }
 {
-    let middle = 16 + 16 * (h.contracts as usize);
-    let end = middle + 8 * (h.accounts as usize);
-    if log.len() != end + 16 * (h.spare as usize) {
+    if log.len() != records_from(h) + 16 * (h.spare as usize) {
         return Err(Refusal::PositionLog);
     }
-    if !limits_good(&log[16..middle]) {
+    if !limits_good(limits_part(h, log)) {
         return Err(Refusal::PositionLog);
     }
-    if !accounts_good(&log[middle..end]) {
+    if !accounts_good(accounts_part(h, log)) {
         return Err(Refusal::PositionLog);
     }
     Ok(())
 }
 
 // The log up to its records.
+#[tactic(auto, using(crate::proofs::FaultLaws::checks), unfolding(crate::specs::Log::front_fault))]
 fn check_front(log: &[u8]) -> Result<(), Refusal>
     ensures { result ≡ checked (front_fault log.now) }
 {
@@ -66,18 +99,13 @@ fn check_front(log: &[u8]) -> Result<(), Refusal>
 }
 
 // Refuses a log, or sums what each group holds on each contract, long and short.
-pub(crate) fn read_log(log: &[u8], sums: &mut Sums) -> Result<(), Refusal>
-    requires { (sums.old.longs ≡ replicate (cells One) 0) × (sums.old.shorts ≡ replicate (cells One) 0) }
-    ensures answer { result ≡ checked (log_fault log.now) }
-    ensures sums_after { log_fault log.now ≡ 0 → (sums.new.longs ≡ long_in (header_of log.now) log.now) ×
-        (sums.new.shorts ≡ short_in (header_of log.now) log.now) }
+#[tactic(auto, using(crate::proofs::ReadLaws::front_refused))]
+pub(crate) fn read_log(log: &[u8]) -> Result<Sums, Refusal>
+    ensures { result ≡ answered (log_fault log.now) (Ok (sums_in (header_of log.now) log.now)) refused }
 {
     check_front(log)?;
     let h = header_of(log);
-    let middle = 16 + 16 * (h.contracts as usize);
-    let end = middle + 8 * (h.accounts as usize);
-    if !add_records(&log[16..middle], &log[middle..end], &log[end..], sums) {
-        return Err(Refusal::PositionLog);
-    }
-    Ok(())
+    let contracts = limits_part(h, log);
+    let accounts = accounts_part(h, log);
+    add_records(contracts, accounts, records_part(h, log)).ok_or(Refusal::PositionLog)
 }

@@ -15,6 +15,7 @@ pub struct Position {
     pub short: Lots,
 }
 
+#[tactic(auto, unfolding(crate::specs::Records::position_at))]
 pub(crate) fn position_of(row: &[u8; 16]) -> Position
     ensures { result ≡ position_at row.now 0 }
 {

@@ -1,11 +1,10 @@
 // What each group holds on each contract, all accounts together: the records checked and summed in one pass.
-ghost use Rattle.std.specs.Prelude.{◌≡◌, true, ◌+◌, ◌≤◌, ◌<◌, length, get_or, replicate};
-ghost use Rattle.rules.specs.declared.kinds.Kinds.TheVariants.{One};
+ghost use Rattle.std.specs.Prelude.{◌≡◌, true, false, ◌+◌, ◌≤◌, ◌<◌, length, get_or, MatchOption};
 ghost use Rattle.tables.specs.Accounts.{accounts_good};
-ghost use Rattle.places.specs.Places.{cells};
 ghost use Rattle.positions.specs.LimitEntries.{limit_count, limited_at, limit_place};
-ghost use Rattle.positions.specs.Records.{record_count, records_good};
-ghost use Rattle.positions.specs.Way.{added_in, sizes_in, long_to, short_to};
+ghost use Rattle.positions.specs.Records.{records_good};
+ghost use Rattle.positions.specs.Way.{added_in, sizes_in};
+ghost use Rattle.positions.specs.Sums.{sums_of};
 
 use crate::contracts::limit_place;
 use crate::records::{fields_good, position_of};
@@ -22,24 +21,29 @@ pub(crate) struct Sums {
     pub(crate) shorts: [u64; 4096],
 }
 
-// Adds an amount in cell i.
+// Adds an amount in cell i. By index: after `get_mut`, tried here, a proof knows of the cells no more than how many.
+// `bump` of counts is the same for 32 bits and 1: two lines each, and one for both would need a trait of numbers and
+// its laws.
+#[tactic(auto, unfolding(crate::specs::Way::added_in))]
 fn add(c: &mut [u64], i: usize, amount: u64)
     requires { get_or c.old i 0 + amount < 18446744073709551616 }
     ensures { c.new ≡ added_in c.old i amount }
 {
     if i < c.len() {
-        c[i] = c[i] + amount;
+        c[i] += amount;
     }
 }
 
 // How many accounts each group has.
-pub(crate) fn add_sizes(accounts: &[u8], sizes: &mut [u64])
-    requires { (length accounts.now ≤ 4096) × (sizes.old ≡ replicate 129 0) }
-    ensures { sizes.new ≡ sizes_in accounts.now }
+pub(crate) fn sizes_in(accounts: &[u8]) -> [u64; 129]
+    requires { length accounts.now ≤ 4096 }
+    ensures { result ≡ sizes_in accounts.now }
 {
+    let mut sizes = [0; 129];
     for entry in accounts.as_chunks::<8>().0 {
-        add(sizes, entry[4] as usize, 1);
+        add(&mut sizes, entry[4] as usize, 1);
     }
+    sizes
 }
 
 // The place of a record's contract: it is that of the record before while the contract does not change.
@@ -53,21 +57,18 @@ fn next_place(contracts: &[u8], before: u16, place: usize, id: u16) -> usize
     limit_place(contracts, id)
 }
 
-// Whether every record is good; where they are, both sides' sums.
-pub(crate) fn add_records(
-    contracts: &[u8],
-    accounts: &[u8],
-    records: &[u8],
-    sums: &mut Sums,
-) -> bool
+// Both sides' sums, where every record is good.
+pub(crate) fn add_records(contracts: &[u8], accounts: &[u8], records: &[u8]) -> Option<Sums>
     requires { (length contracts.now ≤ 512) × (accounts_good accounts.now ≡ true) ×
-        (length records.now ≤ 262144) × (sums.old.longs ≡ replicate (cells One) 0) ×
-        (sums.old.shorts ≡ replicate (cells One) 0) }
-    ensures value { result ≡ records_good contracts.now accounts.now records.now }
-    ensures sums_after { result ≡ true →
-        (sums.new.longs ≡ long_to contracts.now accounts.now records.now (record_count records.now)) ×
-        (sums.new.shorts ≡ short_to contracts.now accounts.now records.now (record_count records.now)) }
+        (length records.now ≤ 262144) }
+    ensures { MatchOption result (records_good contracts.now accounts.now records.now ≡ false)
+        (λ sums. (records_good contracts.now accounts.now records.now ≡ true) ×
+        (sums ≡ sums_of contracts.now accounts.now records.now)) }
 {
+    let mut sums = Sums {
+        longs: [0; 4096],
+        shorts: [0; 4096],
+    };
     let mut contract = 0;
     let mut account = 0;
     let mut place = limit_place(contracts, 0);
@@ -81,7 +82,7 @@ pub(crate) fn add_records(
             & (place < contracts.len() / 16)
             & (entry.len() != 0))
         {
-            return false;
+            return None;
         }
         let cell = cell_of(Kinds::One, get8(entry, 4), 5, place as u16);
         add(&mut sums.longs, cell, long.0 as u64);
@@ -89,5 +90,5 @@ pub(crate) fn add_records(
         contract = r.contract;
         account = r.account;
     }
-    true
+    Some(sums)
 }

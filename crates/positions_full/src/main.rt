@@ -90,12 +90,12 @@ fn judge_all(log: &mut [u8], findings: &mut [u8], times: u32) -> Result<usize, R
     Ok(found)
 }
 
-fn step(h: u64, x: u8) -> u64 {
-    ((h % 4294967291) * 257 + (x as u64) + 1) % 4294967291
+fn step(h: u32, x: u8) -> u32 {
+    ((u64::from(h) * 257 + u64::from(x) + 1) % 4294967291) as u32
 }
 
 // Of the bytes of the findings that were found.
-fn checksum(findings: &[u8], found: usize) -> u64 {
+fn checksum(findings: &[u8], found: usize) -> u32 {
     let bytes = found.saturating_mul(8);
     findings.iter().take(bytes).fold(0, |h, x| step(h, *x))
 }

@@ -2,36 +2,53 @@
 use mathlib.Core.Path.{◌≡◌, refl, sym, ap, ap₂, ◌∙◌}
 use mathlib.Core.Bool.{Bool}
 use mathlib.Core.List.{List, [], ◌∷◌, ◌++◌}
-use Prim.Native.Nat.{ℕ, zero, suc, ◌+◌, ◌-◌, ◌*◌, ◌<◌, ◌≤◌}
-use native.Mathlib.Nat.{le_of_suc-le-suc, not-suc-le-zero}
+use Prim.Native.Nat.{ℕ, zero, suc, ◌+◌, ◌-◌, ◌*◌, ◌<◌, ◌≤◌, zero-le}
 use native.Mathlib.Omega.{arith}
 use lib.Dec.{ltb}
 use borrow.Rule.Slice.PartMut.{put_mid}
-use lib.ListN.{length, get_or, set, take, drop, replicate, get_or-eq_default, length-replicate}
+use lib.ListN.{length, set, take, drop, replicate, length-replicate}
 use lib.ListN.{length-take, length-drop}
 use lib.Seq.{drop-drop}
 use Rattle.std.proofs.lemmas.List.{replicate-append-replicate}
 use Rattle.wire.specs.Bytes.{le, bytes}
 use Rattle.wire.specs.Buffers.{put, put_in, rows}
 use Rattle.wire.proofs.ByteLaws.{bytes_length}
-use Rattle.wire.proofs.BufferLaws.{put_in_lem, put_four, past_end, le_put_after, rows_length}
+use Rattle.wire.proofs.BufferLaws.{put_in_lem, put_sets, then, length_put, past_end, le_put_after, rows_length}
 use Rattle.wire.proofs.TurnLaws.{then_in, pair_turn}
 use Rattle.book.specs.Layout.{head_of}
 use Rattle.posting.specs.Raise.{next_total, place_in, hit_at}
 use Rattle.book.proofs.BookLaws.{head_length}
 
+-- a part that comes back is put where it was lent from
+pub mid_put : (s p : List ℕ) (a k : ℕ) → length p ≡ k → put_mid a k s p ≡ put s a p
+unfolding put
+mid_put s p a k e = ap (λ (l : List ℕ). take a s ++ (p ++ l)) (drop-drop k a s ∙ ap (λ (n : ℕ). drop (a + n) s)
+    (sym e))
+
 -- ---- the head
+-- the mark, and two bytes behind it
+marked : (s p : List ℕ) (letter rulebook : ℕ) → 4 ≤ length s → p ≡ 0x41 ∷ 0x58 ∷ []
+    → set (set (put_mid 0 2 s p) 2 letter) 3 rulebook ≡ put s 0 (0x41 ∷ 0x58 ∷ letter ∷ rulebook ∷ [])
+marked s p letter rulebook h e =
+    let m = put s 0 p in
+    let n : length p ≡ 2 = ap length e in
+    let long : length m ≡ length s = length_put s 0 p (omega arith) in
+    ap (λ (l : List ℕ). set (set l 2 letter) 3 rulebook) (mid_put s p 0 2 n)
+    ∙ put_sets m 2 (letter ∷ rulebook ∷ []) (omega arith)
+    ∙ then s m (put m 2 (letter ∷ rulebook ∷ [])) p (letter ∷ rulebook ∷ []) 0 2 zero-le refl (omega arith) refl
+    ∙ ap (λ (l : List ℕ). put s 0 (l ++ (letter ∷ rulebook ∷ []))) e
+
 module _ (s : List ℕ) (letter rulebook date : ℕ) where
-  pub head_written : (r₁ r₂ r₃ r₄ : List ℕ) → 16 ≤ length s
-      → r₁ ≡ put_in (set (set (set (set s 0 0x41) 1 0x58) 2 letter) 3 rulebook) 4 (bytes 2 1)
+  pub head_written : (p r₁ r₂ r₃ r₄ : List ℕ) → 16 ≤ length s → p ≡ 0x41 ∷ 0x58 ∷ []
+      → r₁ ≡ put_in (set (set (put_mid 0 2 s p) 2 letter) 3 rulebook) 4 (bytes 2 1)
       → r₂ ≡ put_in r₁ 6 (bytes 4 date) → r₃ ≡ put_in r₂ 10 (bytes 2 0) → r₄ ≡ put_in r₃ 12 (bytes 4 0)
       → r₄ ≡ put s 0 (head_of letter rulebook date)
   unfolding head_of bytes
-  head_written r₁ r₂ r₃ r₄ h e₁ e₂ e₃ e₄ =
+  head_written p r₁ r₂ r₃ r₄ h m e₁ e₂ e₃ e₄ =
       then_in s r₃ r₄ _ _ 0 12
       (then_in s r₂ r₃ _ _ 0 10
       (then_in s r₁ r₂ _ _ 0 6
-      (then_in s _ r₁ _ _ 0 4 (put_four s 0 0x41 0x58 letter rulebook (omega arith)) refl e₁ (omega arith))
+      (then_in s _ r₁ _ _ 0 4 (marked s p letter rulebook (omega arith) m) refl e₁ (omega arith))
       refl e₂ (omega arith))
       refl e₃ (omega arith))
       refl e₄ h
@@ -45,12 +62,6 @@ module _ (s : List ℕ) (letter rulebook date : ℕ) where
   head_too_long h = past_end s 0 (head_of letter rulebook date) (rw head_length h)
 
 -- ---- the totals of a fresh book
--- a part that comes back is put where it was lent from
-pub mid_put : (s p : List ℕ) (a k : ℕ) → length p ≡ k → put_mid a k s p ≡ put s a p
-unfolding put
-mid_put s p a k e = ap (λ (l : List ℕ). take a s ++ (p ++ l)) (drop-drop k a s ∙ ap (λ (n : ℕ). drop (a + n) s)
-    (sym e))
-
 zero_rows : (n : ℕ) → rows (λ _. bytes 2 0) n ≡ replicate (2 * n) 0
 unfolding rows bytes
 zero_rows zero = refl
@@ -71,20 +82,6 @@ totals_zeroed s p n long e =
 
     zeros : p ≡ replicate (2 * n) 0
     zeros = e ∙ ap (λ (m : ℕ). replicate m 0) rest
-
--- ---- the place that stands for a ladder, and past the end
-pub place_there : (places : List ℕ) (j : ℕ) → j < length places → get_or places j 0 ≡ place_in places j
-unfolding place_in
-place_there places j h = any_default places j h
-  where
-    any_default : (l : List ℕ) (i : ℕ) → i < length l → get_or l i 0 ≡ get_or l i 255
-    any_default [] i h = absurd (not-suc-le-zero h)
-    any_default (x ∷ l) zero h = refl
-    any_default (x ∷ l) (suc i) h = any_default l i (le_of_suc-le-suc h)
-
-pub place_past : (places : List ℕ) (j : ℕ) → length places ≤ j → 255 ≡ place_in places j
-unfolding place_in
-place_past places j h = sym (get_or-eq_default places 255 h)
 
 -- ---- a group's part
 module _ (part : List ℕ) (later : Bool) (places : List ℕ) (from contracts : ℕ) where

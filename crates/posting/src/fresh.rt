@@ -1,25 +1,15 @@
 // Making a fresh book.
-ghost use Rattle.std.specs.Prelude.{◌≡◌, length};
+ghost use Rattle.std.specs.Prelude.{◌≡◌};
 ghost use Rattle.wire.specs.Outcomes.{checked};
-ghost use Rattle.wire.specs.Buffers.{put, rows};
-ghost use Rattle.wire.specs.Bytes.{bytes};
-ghost use Rattle.places.specs.Places.{ladders, book_size};
 ghost use Rattle.posting.specs.Fresh.{fresh_fault_as, FreshGivesAs};
 
 use crate::head::put_head;
 use book::shape::Shape;
 use places::book_size;
-use rules::kinds::Kinds;
 use rules::text::is_rulebook;
 use wire::refusal::Refusal;
 
-fn zero_totals(b: &mut [u8], kinds: Kinds)
-    requires { length b.old ≡ book_size kinds }
-    ensures { b.new ≡ put b.old 16 (rows (λ _. bytes 2 0) (ladders kinds)) }
-{
-    b[16..].fill(0);
-}
-
+#[tactic(auto, using(wire::proofs::ChosenLaws::chosen), unfolding(crate::specs::Fresh::fresh_fault_as))]
 fn check_fresh(shape: Shape, len: usize, rulebook: u64) -> Result<(), Refusal>
     ensures { result ≡ checked (fresh_fault_as shape len rulebook) }
 {
@@ -38,6 +28,6 @@ pub fn fresh_as(shape: Shape, book: &mut [u8], rulebook: u64) -> Result<(), Refu
 {
     check_fresh(shape, book.len(), rulebook)?;
     put_head(book, shape.letter, rulebook as u8, 0);
-    zero_totals(book, shape.kinds);
+    book[16..].fill(0);
     Ok(())
 }

@@ -1,24 +1,10 @@
 // The 16 bytes before the totals.
-ghost use Rattle.std.specs.Prelude.{◌≡◌, ◌≤◌, length};
-ghost use Rattle.wire.specs.Buffers.{put, put_in};
+ghost use Rattle.std.specs.Prelude.{◌≡◌};
+ghost use Rattle.wire.specs.Buffers.{put_in};
 ghost use Rattle.book.specs.Layout.{head_of};
 
 use book::shape::MARK;
 use wire::write::{put16, put32};
-
-fn store_head(b: &mut [u8], letter: u8, rulebook: u8, date: u32)
-    requires { 16 ≤ length b.old }
-    ensures { b.new ≡ put b.old 0 (head_of letter rulebook date) }
-{
-    b[0] = MARK[0];
-    b[1] = MARK[1];
-    b[2] = letter;
-    b[3] = rulebook;
-    put16(b, 4, 1);
-    put32(b, 6, date);
-    put16(b, 10, 0);
-    put32(b, 12, 0);
-}
 
 // Writes a book's head for its mark's letter, a rulebook and a last date, where there is room for it.
 pub fn put_head(b: &mut [u8], letter: u8, rulebook: u8, date: u32)
@@ -27,5 +13,11 @@ pub fn put_head(b: &mut [u8], letter: u8, rulebook: u8, date: u32)
     if b.len() < 16 {
         return;
     }
-    store_head(b, letter, rulebook, date);
+    b[..2].copy_from_slice(&MARK);
+    b[2] = letter;
+    b[3] = rulebook;
+    put16(b, 4, 1);
+    put32(b, 6, date);
+    put16(b, 10, 0);
+    put32(b, 12, 0);
 }

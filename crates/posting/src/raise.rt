@@ -15,28 +15,26 @@ pub fn is_later_year(book: &[u8], date: u32) -> bool
 }
 
 // A total after the day: from zero in a later year, and one more with an offence.
+#[tactic(auto, unfolding(crate::specs::Raise::next_total, wire::specs::Choice::pick))]
 pub fn next_total(later: bool, hit: bool, total: u16) -> u16
     ensures { result ≡ next_total later hit total }
 {
     let start = if later { 0 } else { total };
-    (((start as u32) + u32::from(hit)) % 65536) as u16
+    start.wrapping_add(u16::from(hit))
 }
 
 // The place that stands for a ladder; past the end 255, which is no contract's: no Option, since `place_in` of
 // specs/Raise is the byte that is kept.
+#[tactic(auto, unfolding(crate::specs::Raise::place_in))]
 pub fn place_in(places: &[u8], ladder: usize) -> usize
     ensures { result ≡ place_in places.now ladder }
 {
-    if ladder < places.len() {
-        places[ladder] as usize
-    } else {
-        255
-    }
+    places.get(ladder).map_or(255, |place| *place as usize)
 }
 
 // Raises the totals in a group's part of the book. `places` has, for each ladder, the place of the lowest contract
-// that reached the number; those of the group begin at `from`. A place from `contracts` on is none. By the place and
-// not by `chunks_exact_mut`, which tells no more of the part than its length: tried in `fill_pairs` of wire.
+// that reached the number; those of the group begin at `from`. A place from `contracts` on is none. Each total by its
+// place: `as_chunks_mut` and `chunks_exact_mut` were tried, and after either no byte of the part is known.
 pub fn raise_group(part: &mut [u8], later: bool, places: &[u8], from: u16, contracts: usize)
     ensures { part.new ≡ raised_part part.old later places.now from contracts }
 {

@@ -1,4 +1,5 @@
-// A buffer at its largest, of which so many elements are in use, from the first on.
+// A buffer at its largest, of which so many elements are in use, from the first on. No ArrayVec: it comes to hold so
+// many of one value only by one push after another.
 ghost use Rattle.std.specs.Prelude.{◌≤◌};
 
 use crate::stop::Stop;
@@ -30,11 +31,9 @@ impl<T: Copy + Drop, const N: usize> Buffer<T, N> {
 
     // So many elements, each of this value.
     pub(crate) fn set(&mut self, count: usize, value: T) -> Result<(), Stop> {
-        if N < count {
-            return Err(Stop::BadScript);
-        }
+        let part = self.all.get_mut(..count).ok_or(Stop::BadScript)?;
         // `fill` clones, and not every `T: Copy` says that its clone cannot fail.
-        for x in &mut self.all[..count] {
+        for x in part {
             *x = value;
         }
         self.used = count;
@@ -43,10 +42,8 @@ impl<T: Copy + Drop, const N: usize> Buffer<T, N> {
 
     // These elements.
     pub(crate) fn set_to(&mut self, from: &[T]) -> Result<(), Stop> {
-        if N < from.len() {
-            return Err(Stop::BadScript);
-        }
-        self.all[..from.len()].copy_from_slice(from);
+        let part = self.all.get_mut(..from.len()).ok_or(Stop::BadScript)?;
+        part.copy_from_slice(from);
         self.used = from.len();
         Ok(())
     }

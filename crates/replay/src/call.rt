@@ -1,17 +1,17 @@
 // The steps that make a call on the library, each with the line it prints.
 use crate::line::{Told, of_bytes, of_numbers, print};
-use crate::script::{bytes_from, get64};
+use crate::script::bytes_from;
 use crate::setup::Setup;
 use desk::state::State;
 use std::io;
-use wire::read::{get8, get32};
+use wire::read::{get8, get32, get64};
 use wire::refusal::Refusal;
 
 pub(crate) fn is_call(one: &[u8]) -> bool {
     matches!(get8(one, 0), b'f' | b'o' | b't' | b'm' | b'e' | b'a' | b'q')
 }
 
-// A record of at most 64 bytes; taken at least once.
+// A record of at most 64 bytes; taken at least once. By letter, as the script's grammar has the limits.
 pub(crate) fn within_limits(one: &[u8]) -> bool {
     match get8(one, 0) {
         b't' | b'e' => one.len() <= 69,
@@ -75,7 +75,8 @@ fn ask(one: &[u8], book: &[u8]) -> Result<Told, Refusal> {
     Ok(Told::Total(asked))
 }
 
-// Makes the call on the parts in use. A refusal keeps the state that it was made in.
+// Makes the call on the parts in use. A refusal keeps the state that it was made in. Each letter is one call, and picks
+// none after it; in a table of functions all would need one type, though each takes other parts.
 fn make(one: &[u8], setup: &mut Setup) -> Result<Told, Refusal> {
     let state = &mut setup.state;
     let tables = setup.tables.in_use();

@@ -1,8 +1,6 @@
 // The line after a call: its letter, the refusal's number, the state, the buffers' checksums, and what else it told.
 // Calls on the book of positions look at no state and no counts, and their lines have none; the exemption test, which
 // is no call, has a line of its own.
-ghost use Rattle.std.specs.Prelude.{◌<◌};
-
 use book::ask::Asked;
 use counts::weigh::Reasons;
 use desk::state::{Day, State};
@@ -24,6 +22,8 @@ pub(crate) fn bad(rt: &HostRuntime) -> io::Result<()> {
     put(rt, b"bad script\n")
 }
 
+// Each part of a line is a write of its own, by `put` and itoa: println! gathers the whole line first, and where
+// standard output fails on the way other bytes of it would have gone out.
 fn say(rt: &HostRuntime, n: u64) -> io::Result<()> {
     let mut digits = Buffer::new();
     put(rt, b" ")?;
@@ -90,57 +90,25 @@ fn say_told(rt: &HostRuntime, told: Told) -> io::Result<()> {
     }
 }
 
-// A checksum with one byte more. `step` in fullsize and positions_full takes any number before it; a program cannot
-// take it from another.
-fn mix(h: u64, x: u8) -> u64
-    requires { h < 4294967291 }
-    ensures { result < 4294967291 }
-{
-    (h * 257 + u64::from(x) + 1) % 4294967291
+// A checksum with one byte more. `step` in fullsize and positions_full says the same: no program takes it from another.
+fn mix(h: u32, x: u8) -> u32 {
+    ((u64::from(h) * 257 + u64::from(x) + 1) % 4294967291) as u32
 }
 
 // The same for a number's four bytes, the low one first.
-fn mix_number(h: u64, v: u32) -> u64
-    requires { h < 4294967291 }
-    ensures { result < 4294967291 }
-{
-    let [a, b, c, d] = v.to_le_bytes();
-    mix(mix(mix(mix(h, a), b), c), d)
+fn mix_number(h: u32, v: u32) -> u32 {
+    v.to_le_bytes().iter().fold(h, |h, x| mix(h, *x))
 }
 
 pub(crate) fn of_bytes(bytes: &[u8]) -> u64 {
-    let mut h = 0;
-    for x in bytes {
-        h = mix(h, *x);
-    }
-    h
+    u64::from(bytes.iter().fold(0, |h, x| mix(h, *x)))
 }
 
 pub(crate) fn of_numbers(numbers: &[u32]) -> u64 {
-    let mut h = 0;
-    for v in numbers {
-        h = mix_number(h, *v);
-    }
-    h
+    u64::from(numbers.iter().fold(0, |h, v| mix_number(h, *v)))
 }
 
-// The step's letter.
-fn put_letter(rt: &HostRuntime, one: &[u8]) -> io::Result<()> {
-    if one.len() < 1 {
-        return Ok(());
-    }
-    put(rt, &one[0..1])
-}
-
-// 0 for an accepted call.
-fn number_of(made: Result<Told, Refusal>) -> u32 {
-    match made {
-        Ok(_) => 0,
-        Err(refusal) => refusal.number(),
-    }
-}
-
-// The whole line of a call, or why it did not go out.
+// The whole line of a call, or why it did not go out. Its number is 0 for an accepted call.
 pub(crate) fn print(
     rt: &HostRuntime,
     one: &[u8],
@@ -148,8 +116,11 @@ pub(crate) fn print(
     state: Option<State>,
     sums: &[u64],
 ) -> io::Result<()> {
-    put_letter(rt, one)?;
-    say(rt, u64::from(number_of(made)))?;
+    put(rt, one.get(..1).unwrap_or(&[]))?;
+    say(
+        rt,
+        made.err().map_or(0, |refusal| u64::from(refusal.number())),
+    )?;
     if let Some(state) = state {
         say_state(rt, state)?;
     }

@@ -12,8 +12,6 @@ mod script;
 mod setup;
 mod stop;
 
-ghost use Rattle.std.specs.Prelude.{◌≡◌, length};
-
 use files::input::fill;
 use files::said::fail;
 use script::step_size;
@@ -73,9 +71,7 @@ fn say_why(rt: &HostRuntime, stop: Stop) {
 
 // Room for a script, and for a byte more that shows one too long. In `main` itself the check runs out of stack on so
 // long an array.
-fn room() -> [u8; 1000001]
-    ensures { 1000001 ≡ length result }
-{
+fn room() -> [u8; 1000001] {
     [0; 1000001]
 }
 

@@ -1,12 +1,12 @@
 // The steps on the book of positions: set up, made fresh, judged on and asked. They look at no state.
 use crate::line::{Told, of_bytes, print};
-use crate::script::{bytes_from, get_length, get64};
+use crate::script::{bytes_from, get_length};
 use crate::setup::{Setup, write_bytes};
 use crate::stop::Stop;
 use positions::books::{ask, fresh};
 use positions::judge::judge;
 use std::io;
-use wire::read::get8;
+use wire::read::{get8, get64};
 use wire::refusal::Refusal;
 
 pub(crate) fn is_on_positions(one: &[u8]) -> bool {
@@ -30,17 +30,17 @@ fn make_fresh(rt: &HostRuntime, one: &[u8], book: &mut [u8]) -> io::Result<()> {
 
 // p
 fn judge_log(rt: &HostRuntime, one: &[u8], book: &mut [u8], findings: &mut [u8]) -> io::Result<()> {
-    let made = judge(bytes_from(one, 5), book, findings).map(|found| Told::Findings(found));
+    let made = judge(bytes_from(one, 5), book, findings).map(Told::Findings);
     print(rt, one, made, None, &[of_bytes(book), of_bytes(findings)])
 }
 
 // r
 fn ask_book(rt: &HostRuntime, one: &[u8], book: &[u8]) -> io::Result<()> {
     let asked = ask(book, get64(one, 1), get64(one, 9), get64(one, 17));
-    print_on_book(rt, one, asked.map(|told| Told::Total(told)), book)
+    print_on_book(rt, one, asked.map(Told::Total), book)
 }
 
-// A call on the parts in use: whether its line went out.
+// A call on the parts in use: whether its line went out. One arm a letter, as in call.rt and for the same reason.
 fn call(rt: &HostRuntime, one: &[u8], book: &mut [u8], findings: &mut [u8]) -> io::Result<()> {
     match get8(one, 0) {
         b'g' => make_fresh(rt, one, book),

@@ -3,12 +3,6 @@ ghost use Rattle.std.specs.Prelude.{◌<◌, ◌≤◌, length, IfSome};
 
 use wire::read::{get8, get32};
 
-pub(crate) fn get64(s: &[u8], at: u8) -> u64 {
-    let low = get32(s, at as usize);
-    let high = get32(s, (at as usize) + 4);
-    (low as u64) + 4294967296 * (high as u64)
-}
-
 // A number of 32 bits as a length.
 pub(crate) fn get_length(s: &[u8], at: usize) -> usize
     ensures { result ≤ 4294967295 }
@@ -22,8 +16,8 @@ pub(crate) fn bytes_from(s: &[u8], from: usize) -> &[u8] {
 }
 
 // The bytes that the step at the start of `rest` takes by its letter and its number of bytes; none for an unknown
-// letter. The matches on letters are the script's grammar, and every letter has its arm: a table of steps would say no
-// more.
+// letter. Letters and no enum: making one would be this match again, and each step still reads its own numbers from the
+// bytes.
 fn wanted(rest: &[u8]) -> Option<usize>
     ensures { IfSome result (λ size. 0 < size) }
 {

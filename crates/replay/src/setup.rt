@@ -61,22 +61,17 @@ fn day_of(one: &[u8]) -> Day {
 
 // c: count i is v.
 fn set_count(one: &[u8], counts: &mut [u32]) -> Result<(), Stop> {
-    let i = get_length(one, 1);
-    if counts.len() <= i {
-        return Err(Stop::BadScript);
-    }
-    counts[i] = get32(one, 5);
+    let count = counts.get_mut(get_length(one, 1)).ok_or(Stop::BadScript)?;
+    *count = get32(one, 5);
     Ok(())
 }
 
 // The step's bytes into a book, or nothing where they go past its end.
 pub(crate) fn write_bytes(one: &[u8], book: &mut [u8]) -> Result<(), Stop> {
-    let at = get_length(one, 1);
     let bytes = bytes_from(one, 9);
-    if (book.len() < at) || (book.len() - at < bytes.len()) {
-        return Err(Stop::BadScript);
-    }
-    book[at..at + bytes.len()].copy_from_slice(bytes);
+    let rest = book.get_mut(get_length(one, 1)..).ok_or(Stop::BadScript)?;
+    let part = rest.get_mut(..bytes.len()).ok_or(Stop::BadScript)?;
+    part.copy_from_slice(bytes);
     Ok(())
 }
 
@@ -85,7 +80,8 @@ fn move_to(setup: &mut Setup, state: State) -> Result<(), Stop> {
     Ok(())
 }
 
-// A step that is no call: what it sets up, or asks of the rules. Its letter is one that a script has.
+// A step that is no call: what it sets up, or asks of the rules. Its letter is one that a script has. By a match: each
+// letter sets up another part from other bytes of the step, and no arm picks the step after it.
 pub(crate) fn change(rt: &HostRuntime, one: &[u8], setup: &mut Setup) -> Result<(), Stop> {
     match get8(one, 0) {
         b'N' => move_to(setup, State::Closed),

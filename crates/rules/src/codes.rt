@@ -1,4 +1,5 @@
-// The codes that each rulebook has.
+// The codes that each rulebook has. They come as bytes and not as enums: which bytes are codes is what is tested here,
+// and `has_type`, `has_instruction` and `has_purpose` of specs/Codes promise an answer for every number.
 ghost use Rattle.std.specs.Prelude.{◌≡◌};
 ghost use Rattle.rules.specs.Codes.{has_type, has_instruction, has_purpose};
 

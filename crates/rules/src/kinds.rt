@@ -1,5 +1,5 @@
 // How many kinds of offence a rulebook has, and by which numbers they go: numbers, as `enough_of`, `sanction_of` and
-// `clause_of` promise an answer for every number.
+// `clause_of` promise an answer for every number, and as `first_kind` of specs/Kinds and a finding's byte are numbers.
 ghost use Rattle.std.specs.Prelude.{◌≡◌};
 ghost use Rattle.rules.specs.Kinds.{kinds_of, kinds_in, first_kind};
 

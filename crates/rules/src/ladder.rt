@@ -1,4 +1,5 @@
-// Families, rungs and sanctions: by number, as each function here promises an answer for every number (16, 0 for none).
+// Families, rungs and sanctions: asked by number, as each function here promises an answer for every number, and told
+// by number, 16 or 0 for none, as `family`, `rung` and `sanction` of specs/Ladders and the bytes of a finding are.
 ghost use Rattle.std.specs.Prelude.{◌≡◌};
 ghost use Rattle.rules.specs.Choices.{by_three};
 ghost use Rattle.rules.specs.Ladders.{family, rung, limit_sanction, sanction};

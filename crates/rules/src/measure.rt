@@ -4,7 +4,7 @@ ghost use Rattle.rules.specs.Measure.{large, enough, reached};
 
 use crate::text::Text;
 
-#[derive(Debug, Clone, Copy, PartialEq, Eq, Hash)]
+#[derive(Debug, Clone, Copy, Default, PartialEq, Eq, Hash)]
 pub struct Lots(pub u32);
 
 #[derive(Debug, Clone, Copy, PartialEq, Eq, Hash)]
@@ -21,7 +21,7 @@ pub fn is_large(text: Text, lots: Lots, largest: Lots) -> bool
 
 // The times on one contract in one day that are an offence of a kind; 0, for none, of what the rulebook does not have:
 // no Option, since `enough` of specs/Measure is a number, and `reached` goes by it.
-#[tactic(auto, using(wire::proofs::ChoiceLaws::chain), unfolding(crate::specs::Measure::enough, crate::specs::Choices::by_three))]
+#[tactic(auto, unfolding(crate::specs::Measure::enough, crate::specs::Choices::by_three, wire::specs::Choice::pick))]
 pub fn enough_of(text: Text, kind: u8) -> Times
     ensures { result ≡ enough text kind }
 {

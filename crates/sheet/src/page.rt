@@ -8,15 +8,13 @@ use files::output::put;
 use rules::codes::{has_instruction, has_type};
 use std::io;
 use words::codes::{add_clause, add_instruction, add_kind, add_purpose, add_rulebook, add_sort};
+use words::line::Line;
 
 // The longest line, an entry's, takes 102 bytes.
-type Line = words::line::Line<128>;
+const LINE: usize = 128;
 
 fn is_asked(asked: Option<u8>, code: u8) -> bool {
-    match asked {
-        Some(one) => one == code,
-        None => true,
-    }
+    asked.is_none_or(|one| one == code)
 }
 
 // Whether the entries of these codes' rulebook, type and kind are asked for.
@@ -74,7 +72,8 @@ fn add_block(line: &mut Line, c: Codes) {
 }
 
 fn put_block(rt: &HostRuntime, c: Codes) -> io::Result<()> {
-    let mut line = Line::new();
+    let mut room = [0u8; LINE];
+    let mut line = Line::new(&mut room);
     line.add_text(b"\n### ");
     add_block(&mut line, c);
     line.add_text(b"\n\n");
@@ -127,7 +126,8 @@ fn add_entry(line: &mut Line, number: usize, c: Codes) {
 }
 
 fn put_entry(rt: &HostRuntime, number: usize, c: Codes) -> io::Result<()> {
-    let mut line = Line::new();
+    let mut room = [0u8; LINE];
+    let mut line = Line::new(&mut room);
     add_entry(&mut line, number, c);
     put(rt, line.as_bytes())
 }

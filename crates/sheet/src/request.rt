@@ -15,6 +15,7 @@ pub(crate) struct Asked {
 }
 
 // The word at a place as a code: one digit and no more, and not 0, which no list has.
+#[tactic(auto, using(words::proofs::NumberLaws::one_digit))]
 fn code_at(rt: &HostRuntime, place: usize) -> Option<u8> {
     let mut room = [0u8; 1];
     let digit = number_in(word_at(rt, place, &mut room));
@@ -25,18 +26,18 @@ fn code_at(rt: &HostRuntime, place: usize) -> Option<u8> {
 }
 
 // What was asked for, and the code that one more word names.
-fn narrowed(asked: Asked, word: &[u8], code: Option<u8>) -> Option<Asked> {
+fn narrowed(asked: Asked, word: &[u8], code: u8) -> Option<Asked> {
     let mut next = asked;
     if word == b"--rulebook".as_slice() {
-        next.rulebook = code;
+        next.rulebook = Some(code);
     } else if word == b"--type".as_slice() {
-        next.sort = code;
+        next.sort = Some(code);
     } else if word == b"--kind".as_slice() {
-        next.kind = code;
+        next.kind = Some(code);
     } else if word == b"--instruction".as_slice() {
-        next.instruction = code;
+        next.instruction = Some(code);
     } else if word == b"--purpose".as_slice() {
-        next.purpose = code;
+        next.purpose = Some(code);
     } else {
         return None;
     }
@@ -49,7 +50,7 @@ fn narrowed_by(rt: &HostRuntime, asked: Asked, pair: usize) -> Option<Asked>
 {
     let code = code_at(rt, 2 * pair + 2)?;
     let mut room = [0u8; 16];
-    narrowed(asked, word_at(rt, 2 * pair + 1, &mut room), Some(code))
+    narrowed(asked, word_at(rt, 2 * pair + 1, &mut room), code)
 }
 
 // What all the words ask for: at most five pairs, as there are five lists. The program's own name is counted too.

@@ -2,7 +2,7 @@
 ghost use Rattle.std.specs.Prelude.{◌≡◌, ◌+◌, ◌*◌, ◌≤◌, length, true};
 ghost use Rattle.tables.specs.Entries.{entries};
 ghost use Rattle.tables.specs.Accounts.{account_at, account_good, accounts_good, has_member, account_entry};
-ghost use Rattle.tables.specs.Way.{account_from, halved, found_account};
+ghost use Rattle.tables.specs.Way.{halved, found_account};
 
 use wire::read::get32;
 
@@ -15,26 +15,21 @@ pub struct Account {
     pub spare: u16,
 }
 
-// An entry's fields, from its two numbers of 32 bits: reading each
-// field by itself makes the loop below take twice the time.
-fn account_from(number: u32, rest: u32) -> Account
-    ensures { result ≡ account_from number rest }
-{
-    Account {
-        number,
-        group: (rest % 256) as u8,
-        kind: (rest / 256 % 256) as u8,
-        spare: (rest / 65536) as u16,
-    }
-}
-
+// An entry's fields, from its two numbers of 32 bits. Each field by itself was tried: the loop below then takes twice
+// the time, for each record that is taken (docs/LANDINGS.md, 13).
 fn account_of(entry: &[u8; 8]) -> Account
     ensures { result ≡ account_at entry.now 0 }
 {
-    account_from(get32(entry, 0), get32(entry, 4))
+    let [group, kind, low, high] = get32(entry, 4).to_le_bytes();
+    Account {
+        number: get32(entry, 0),
+        group,
+        kind,
+        spare: u16::from_le_bytes([low, high]),
+    }
 }
 
-// All tests at once: a branch an entry would cost more than it spares.
+// All tests at once, with no branch.
 fn account_good(before: u32, e: Account) -> bool
     ensures { result ≡ account_good before e }
 {
@@ -44,7 +39,8 @@ fn account_good(before: u32, e: Account) -> bool
         & (e.spare == 0)
 }
 
-// Whether each entry is good, and its number above the one before.
+// Whether each entry is good, and its number above the one before. One function for `contracts_good` and `limits_good`
+// too would take each table's test as a closure that hands a number on, and would have to tell of its runs.
 pub fn accounts_good(part: &[u8]) -> bool
     ensures { result ≡ accounts_good part.now }
 {
@@ -69,8 +65,8 @@ pub fn has_member(part: &[u8], group: u8) -> bool
     })
 }
 
-// By hand: `by_halving` below promises an answer in tables out of order too, which std's binary searches don't.
-// The place that halving ends at: of the account, where it is in a table that rises.
+// The place that halving ends at: of the account, where it is in a table that rises. By hand: `by_halving` below
+// promises an answer in tables out of order too, and std's binary searches promise none there.
 fn halving(part: &[u8], number: u32) -> usize
     requires { 8 ≤ length part.now }
     ensures { result ≡ halved part.now number }
@@ -88,8 +84,8 @@ fn halving(part: &[u8], number: u32) -> usize
     from
 }
 
-// The account's entry as a part of the table, or an empty part where there is none: no Option, since `found_account`,
-// of which `by_halving` speaks, is bytes. In a table that is not in order, it is what halving comes to.
+// The account's entry as a part of the table: no Option, as `by_halving` promises the bytes `found_account`, and none
+// where the account is not there; callers go by their length. In a table out of order it is what halving comes to.
 pub fn find_account(part: &[u8], number: u32) -> &[u8]
     ensures by_halving { result.now ≡ found_account part.now number }
     ensures in_order { accounts_good part.now ≡ true → result.now ≡ account_entry part.now number }

@@ -1,25 +1,25 @@
 -- Laws of the list of findings: what the writes leave, one more where a ladder has an offence, how long it is.
 -- Assumes nothing.
 use mathlib.Core.Path.{◌≡◌, refl, sym, ap, ◌∙◌}
-use mathlib.Core.Bool.{Bool, true, false}
-use mathlib.Core.List.{List, []}
-use Prim.Native.Nat.{ℕ, ◌+◌, ◌-◌, ◌*◌, ◌/◌, ◌<◌, ◌≤◌, zero-le}
+use mathlib.Core.Bool.{Bool, true, false, cond}
+use mathlib.Core.List.{List, [], ◌∷◌}
+use Prim.Native.Nat.{ℕ, zero, suc, ◌+◌, ◌*◌, ◌/◌, ◌<◌, ◌≤◌, zero-le}
 use native.Mathlib.Nat.{add-zero}
 use native.Mathlib.Omega.{arith}
 use borrow.Author.Tests.{lt-ltb, le-ltb}
-use lib.Dec.{eqb}
-use lib.ListN.{length, get_or, set}
+use lib.ListN.{length, set}
+use Rattle.std.specs.List.{filter, range_with_len}
 use Rattle.wire.specs.Choice.{pick}
 use Rattle.wire.specs.Below.{count}
 use Rattle.wire.specs.Bytes.{le, bytes}
 use Rattle.wire.specs.Buffers.{put, put_in, rows}
 use Rattle.wire.proofs.ChoiceLaws.{pick_yes, pick_no}
 use Rattle.wire.proofs.KeptLaws.{kept_length}
-use Rattle.wire.proofs.BelowLaws.{count_more, count_up}
+use Rattle.wire.proofs.BelowLaws.{count_none, count_more, count_up}
 use Rattle.wire.proofs.BufferLaws.{put_four, put_none, then, rows_more}
 use Rattle.wire.proofs.TurnLaws.{then_in}
 use Rattle.rules.specs.declared.kinds.Kinds.{Kinds}
-use Rattle.rules.specs.Ladders.{rung, sanction}
+use Rattle.rules.specs.Ladders.{sanction}
 use Rattle.book.specs.declared.shape.Shape.{Shape}
 use Rattle.places.specs.Places.{group_at, kind_at, family_at}
 use Rattle.book.specs.Layout.{total_at}
@@ -86,14 +86,6 @@ module _ (v : Verdict) (date : ℕ) (book : List ℕ) where
       (omega (arith, found_length l)) e'
       ∙ ap (put s 0) (sym (rows_more (found_at v date book) l))
 
--- what the calls of `sanction_for` gave: the group, whether it has a member, the kind, the rung
-pub sanctioned : (kinds : Kinds) (rulebook : ℕ) (members : List ℕ) (ladder total : ℕ) {group byte kind step r : ℕ}
-    → group ≡ group_at kinds ladder → byte ≡ get_or members (group - 1) 0 → kind ≡ kind_at kinds ladder
-    → step ≡ rung total → r ≡ sanction rulebook kind step (eqb byte 1)
-    → r ≡ sanction_for kinds rulebook members ladder total
-unfolding sanction_for
-sanctioned kinds rulebook members ladder total g b k s e = cc
-
 -- ---- what the calls of `list_one` gave: the place, and where it is a contract's, all that the finding is made of
 module _ (shape : Shape) (rulebook : ℕ) (places ids members : List ℕ) (ladder : ℕ) {place : ℕ} where
   pub place_hit : place ≡ place_in places ladder → place < length ids / 2
@@ -121,3 +113,21 @@ module _ (shape : Shape) (rulebook : ℕ) (places ids members : List ℕ) (ladde
       → s ≡ put s at (found_at (verdict_in shape rulebook places ids members) date book ladder)
   unfolding found_at
   finding_none date book s at p h = put_no _ s _ at (place_none p h)
+
+-- ---- how many numbers from a on pass a test, as a chain over them counts
+one_more : (t : Bool) (x : ℕ) (xs : List ℕ) → length (cond t (x ∷ xs) xs) ≡ length xs + pick t 1 0
+unfolding pick
+one_more true x xs = omega arith
+one_more false x xs = omega arith
+
+count_from : (p : ℕ → Bool) (n a : ℕ) → length (filter p (range_with_len a n)) + count p a ≡ count p (a + n)
+count_from p zero a = let e : a + 0 ≡ a = omega arith in rw e (omega arith)
+count_from p (suc n) a =
+    let e : a + suc n ≡ a + 1 + n = omega arith in
+    rw e
+    (omega (arith, count_from p n (a + 1), count_more p a, one_more (p a) a (filter p (range_with_len (a + 1) n))))
+
+pub count_ran : (p : ℕ → Bool) (n : ℕ) → length (filter p (range_with_len 0 n)) ≡ count p n
+count_ran p n =
+    let e : 0 + n ≡ n = omega arith in
+    omega (arith, count_from p n 0 ∙ ap (count p) e, count_none p)

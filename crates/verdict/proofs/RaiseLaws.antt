@@ -14,7 +14,6 @@ use Rattle.wire.proofs.ByteLaws.{bytes_length, le_take, le_drop}
 use Rattle.wire.proofs.BufferLaws.{then_row, rows_cong, rows_length, rows_rows, le_put_after, length_put, put_whole}
 use Rattle.rules.specs.declared.kinds.Kinds.{Kinds}
 use Rattle.rules.specs.Kinds.{kinds_in}
-use Rattle.rules.proofs.KindLaws.{few}
 use Rattle.places.specs.Places.{book_size}
 use Rattle.book.specs.Layout.{total_at}
 use Rattle.posting.specs.Raise.{next_total, hit_at, raised_part}
@@ -26,22 +25,19 @@ use Rattle.verdict.specs.Way.{total_bytes}
 doubled : (own g j : ℕ) → 16 + 2 * own * g + 2 * j ≡ 16 + 2 * (own * g + j)
 doubled own g j = let q : 2 * own * g ≡ 2 * (own * g) = mul_assoc 2 own g in omega arith
 
--- where n is the number of kinds: a group's part is in the book, all parts up to a group are, and all numbers are
--- small
-pub part_fits : (kinds : Kinds) (n g : ℕ) → n ≡ kinds_in kinds → g < 128
-    → (16 + 2 * (16 * n) * g + 2 * (16 * n) ≤ book_size kinds) × (16 * n * g ≤ 8192) × (book_size kinds ≤ 16400)
-part_fits kinds n g e h =
-    let f : 16 + 2 * (16 * n) * g + 2 * (16 * n) ≤ book_size kinds = rw e (part_there kinds g h) in
-    (f, omega (arith, few kinds, doubled (16 * n) g 0), omega (arith, few kinds))
+-- where n is the number of kinds: a group's part is in the book, and so are all parts up to a group
+part_fits : (kinds : Kinds) (n g : ℕ) → n ≡ kinds_in kinds → g < 128
+    → 16 + 2 * (16 * n) * g + 2 * (16 * n) ≤ book_size kinds
+part_fits kinds n g e h = rw e (part_there kinds g h)
 
-pub parts_fit : (kinds : Kinds) (n g : ℕ) → n ≡ kinds_in kinds → g ≤ 128 → 16 + 2 * (16 * n) * g ≤ book_size kinds
+parts_fit : (kinds : Kinds) (n g : ℕ) → n ≡ kinds_in kinds → g ≤ 128 → 16 + 2 * (16 * n) * g ≤ book_size kinds
 parts_fit kinds n g e h = rw e (parts_there kinds g h)
 
 -- the same in a book of that size, for a group and up to the next
 pub next_fits : (kinds : Kinds) (n g size : ℕ) → n ≡ kinds_in kinds → g < 128 → size ≡ book_size kinds
     → (16 + 2 * (16 * n) * g + 2 * (16 * n) ≤ size) × (16 + 2 * (16 * n) * (g + 1) ≤ size)
 next_fits kinds n g size e h q =
-    (rw q (part_fits kinds n g e h).0, rw q (parts_fit kinds n (g + 1) e (omega arith)))
+    (rw q (part_fits kinds n g e h), rw q (parts_fit kinds n (g + 1) e (omega arith)))
 
 module _ (own : ℕ) (later : Bool) (places book : List ℕ) (contracts : ℕ) where
   -- the bytes of one group's totals after the day

@@ -10,9 +10,7 @@ use rules::kinds::Kinds;
 pub fn count_found(kinds: Kinds, places: &[u8], contracts: usize) -> usize
     ensures { result ≡ found_in kinds places.now contracts }
 {
-    let mut n = 0;
-    for l in 0..ladders_in(kinds) {
-        n += usize::from(place_in(places, l) < contracts);
-    }
-    n
+    (0..ladders_in(kinds))
+        .filter(|l| place_in(places, *l) < contracts)
+        .count()
 }

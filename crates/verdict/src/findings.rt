@@ -25,6 +25,8 @@ struct Finding {
 }
 
 impl Finding {
+    // The ladder is a number, whose bound is asked here and in `list_one`: a type for it would hold its kinds, and
+    // `group_at` and `kind_at` are promised for every number.
     fn put(self, out: &mut [u8], at: usize)
         requires { (at + 8 ≤ length out.old) × (self.ladder < ladders self.kinds) }
         ensures { out.new ≡ put out.old at (finding self.kinds self.ladder self.sanction self.total self.id) }
@@ -42,6 +44,7 @@ impl Finding {
 
 impl Ruling<'_> {
     // The sanction for a ladder's new total.
+    #[tactic(auto, unfolding(crate::specs::Way::sanction_for))]
     fn sanction_for(&self, ladder: usize, total: u16) -> u8
         ensures { result ≡ sanction_for self.now.shape.kinds self.now.rulebook self.now.members.now ladder total }
     {
@@ -56,6 +59,7 @@ impl Ruling<'_> {
     }
 
     // A ladder's finding, where it has an offence, after n others; then one more is listed.
+    #[tactic(auto, using(rules::proofs::KindLaws::few))]
     fn list_one(&self, out: &mut [u8], n: usize, date: u32, book: &[u8], ladder: usize) -> usize
         requires { (ladder < ladders self.now.shape.kinds) ×
             (8 * (n + pick (offends (verdict_of self.now) ladder) 1 0) ≤ length out.old) }
@@ -79,7 +83,8 @@ impl Ruling<'_> {
         n
     }
 
-    // The findings of every ladder.
+    // The findings of every ladder. A loop, and no fold: its closure would hold `out`, and what `out` has after it
+    // would have to be told of the closure's runs.
     pub(crate) fn list_all(&self, date: u32, book: &[u8], out: &mut [u8])
         requires { 8 * found_count (verdict_of self.now) ≤ length out.old }
         ensures { out.new ≡ put out.old 0 (findings (verdict_of self.now) date book.now) }

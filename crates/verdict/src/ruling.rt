@@ -2,7 +2,8 @@
 use book::shape::Shape;
 
 // `places` has each ladder's lowest place, a byte each, `ids` the contracts' ids, 16 bits each, `members` a byte for
-// each group, 1 where it has a member among the day's accounts.
+// each group, 1 where it has a member among the day's accounts: a byte and no bool, as `verdict_in` and `sanction_for`
+// of specs speak of these bytes, and positions hands in none of them, which `get8` reads as 0.
 #[derive(Clone, Copy)]
 pub struct Ruling<'a> {
     pub shape: Shape,

@@ -7,14 +7,15 @@ ghost use Rattle.verdict.specs.Settle.{SettleGives};
 
 use crate::count::count_found;
 use crate::ruling::Ruling;
-use crate::totals::raise_all;
 use places::book_size;
 use posting::head::put_head;
 use posting::raise::is_later_year;
 use wire::refusal::Refusal;
 
 impl Ruling<'_> {
-    // The findings go first: they are judged on the book as it was.
+    // The findings go first: they are judged on the book as it was. Its length is asked here and in `raise_all`: a
+    // struct that knows it would hold the `&mut`, and each function would have to say that the book in it is still the
+    // same.
     fn write_day(&self, date: u32, book: &mut [u8], out: &mut [u8])
         requires { (length book.old ≡ book_size self.now.shape.kinds) ×
             (8 * found_count (verdict_of self.now) ≤ length out.old) }
@@ -23,13 +24,7 @@ impl Ruling<'_> {
     {
         self.list_all(date, book, out);
         let later = is_later_year(book, date);
-        raise_all(
-            book,
-            self.shape.kinds,
-            later,
-            self.places,
-            self.ids.len() / 2,
-        );
+        self.raise_all(book, later);
         put_head(book, self.shape.letter, self.rulebook, date);
     }
 

@@ -21,6 +21,7 @@ use wire::refusal::Refusal;
 // The longest record.
 const ROW: usize = 24;
 
+#[tactic(auto, using(rules::proofs::KindLaws::kinds_most), unfolding(rules::specs::Kinds::most_kinds))]
 fn fresh_size(rulebook: u64) -> usize
     ensures { result ≤ 12304 }
 {
@@ -91,6 +92,7 @@ fn finish(rt: &HostRuntime, asked: Asked, told: Result<u32, Stop>) {
     }
 }
 
+#[tactic(auto, using(wire::proofs::ChoiceLaws::pick_le), unfolding(daylog::specs::Records::record_length))]
 fn row_size(log: &[u8]) -> usize
     ensures { result ≤ 24 }
 {

@@ -2,9 +2,13 @@
 use counts::weigh::{Plan, Reasons};
 use daylog::record::Record;
 use words::codes::{add_clause, add_kind};
+use words::line::Line;
+
+// The type of a trade. It is the byte as it came, and no enum: `record_good` of daylog tests it, for any byte.
+pub(crate) const TRADE: u8 = 1;
 
 // The longest line, a trade's, takes 158 bytes.
-pub(crate) type Line = words::line::Line<192>;
+pub(crate) const LINE: usize = 192;
 
 // An account of the record, and the kind that is told of it.
 fn add_account(line: &mut Line, account: u32, kind: u8) {
@@ -34,40 +38,50 @@ fn add_side(line: &mut Line, clause: u8, counts: bool, other: u8) {
     add_answer(line, clause, counts, words);
 }
 
-fn add_trade(line: &mut Line, r: Record, p: Plan, why: Reasons) {
-    let first = why.first;
-    let second = why.second;
-    add_account(line, r.first, 1);
-    add_side(line, first.own, p.own, second.own);
-    line.add_text(b";");
-    add_account(line, r.second, 1);
-    add_side(line, second.own, p.own, first.own);
+// A record, what it counts for, and the clauses of its orders.
+#[derive(Clone, Copy)]
+pub(crate) struct Weighed {
+    pub(crate) record: Record,
+    pub(crate) plan: Plan,
+    pub(crate) why: Reasons,
 }
 
-// A cancel without a clause always counts as a frequent one, so that the clause says it all.
-fn add_cancel(line: &mut Line, r: Record, p: Plan, why: Reasons) {
-    let order = why.first;
-    add_account(line, r.first, 2);
-    add_clause(line, order.frequent);
-    line.add_text(b"; ");
-    add_kind(line, 3);
-    line.add_text(b": ");
-    add_answer(line, order.over, p.over, b"not large");
-}
-
-fn add_kinds(line: &mut Line, r: Record, p: Plan, why: Reasons) {
-    if r.sort == 1 {
-        add_trade(line, r, p, why);
-    } else {
-        add_cancel(line, r, p, why);
+impl Weighed {
+    fn add_trade(self, line: &mut Line) {
+        let first = self.why.first.own;
+        let second = self.why.second.own;
+        add_account(line, self.record.first, 1);
+        add_side(line, first, self.plan.own, second);
+        line.add_text(b";");
+        add_account(line, self.record.second, 1);
+        add_side(line, second, self.plan.own, first);
     }
-}
 
-// The whole line of the record that has this number in its log.
-pub(crate) fn add_record(line: &mut Line, number: u32, r: Record, p: Plan, why: Reasons) {
-    line.add_number(number as u64, b'.');
-    line.add_text(b" contract ");
-    line.add_number(r.contract as u64, b',');
-    add_kinds(line, r, p, why);
-    line.add_text(b"\n");
+    // A cancel without a clause always counts as a frequent one, so that the clause says it all.
+    fn add_cancel(self, line: &mut Line) {
+        let order = self.why.first;
+        add_account(line, self.record.first, 2);
+        add_clause(line, order.frequent);
+        line.add_text(b"; ");
+        add_kind(line, 3);
+        line.add_text(b": ");
+        add_answer(line, order.over, self.plan.over, b"not large");
+    }
+
+    fn add_kinds(self, line: &mut Line) {
+        if self.record.sort == TRADE {
+            self.add_trade(line);
+        } else {
+            self.add_cancel(line);
+        }
+    }
+
+    // The whole line of this record, which has the number in its log.
+    pub(crate) fn add_line(self, line: &mut Line, number: u32) {
+        line.add_number(number as u64, b'.');
+        line.add_text(b" contract ");
+        line.add_number(self.record.contract as u64, b',');
+        self.add_kinds(line);
+        line.add_text(b"\n");
+    }
 }

@@ -1,15 +1,13 @@
 // One record that was taken: whether its line is asked for, and the line written.
 use crate::asked::Asked;
-use crate::line::{Line, add_record};
+use crate::line::{LINE, TRADE, Weighed};
 use crate::stop::Stop;
 use counts::weigh::{Reasons, weigh};
 use daylog::header::header_of;
 use daylog::record::record_of;
 use office::lines::write;
 use wire::read::get8;
-
-// The type of a trade.
-const TRADE: u8 = 1;
+use words::line::Line;
 
 // Whether an order of the record is exempt for a kind that the record may be.
 fn is_spared(sort: u8, why: Reasons) -> bool {
@@ -30,8 +28,10 @@ pub(crate) fn write_line(
     row: &[u8],
 ) -> Result<(), Stop> {
     let (plan, why) = weigh(header_of(log), log, row)?;
-    let mut line = Line::new();
-    add_record(&mut line, number, record_of(row), plan, why);
+    let mut room = [0u8; LINE];
+    let mut line = Line::new(&mut room);
+    let record = record_of(row);
+    Weighed { record, plan, why }.add_line(&mut line, number);
     if write(rt, b"why", line.as_bytes()) < 0 {
         return Err(Stop::Unwritten);
     }

@@ -6,7 +6,7 @@ use borrow.Author.Tests.{eqb-true, eqb-false, eq-eqb, ne_eqb}
 use lib.Dec.{eqb}
 use Rattle.wire.specs.Choice.{pick, or_else}
 use Rattle.wire.specs.Outcomes.{answered, Outcome}
-use Rattle.wire.proofs.ChoiceLaws.{pick_yes, pick_no, or_else_lem, or_first_by}
+use Rattle.wire.proofs.ChoiceLaws.{pick_yes, pick_no, or_else_lem}
 
 -- ---- the answer alone; `r` makes a refusal of a number
 module _ {A : Type 0} (d : A) (r : ℕ → A) where
@@ -17,13 +17,6 @@ module _ {A : Type 0} (d : A) (r : ℕ → A) where
   pub answer_done : (fault : ℕ) {a : A} → fault ≡ 0 → a ≡ d → a ≡ answered fault d r
   unfolding answered
   answer_done fault e is = pick_yes _ _ _ _ (eq-eqb fault 0 e) is
-
-  -- two lists of refusals: the first gave this number, or none, and the second decides
-  pub answer_first : (f g n : ℕ) → n ≡ f → (n ≡ 0 → ⊥) → r n ≡ answered (or_else f g) d r
-  answer_first f g n e some = answer_refused (or_else f g) n (or_first_by f g n e some) some
-
-  pub answer_then : (f g : ℕ) {a : A} → f ≡ 0 → a ≡ answered g d r → a ≡ answered (or_else f g) d r
-  answer_then f g e is = rw (or_else_lem f g e) is
 
   -- the paper's number of it: 0 where it is done, and the refusal's
   pub answer_number : (number : A → ℕ) (fault : ℕ) → number d ≡ 0 → ((fault ≡ 0 → ⊥) → number (r fault) ≡ fault)

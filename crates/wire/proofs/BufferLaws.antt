@@ -8,6 +8,7 @@ use native.Mathlib.Nat.{mul-suc, mul-le-mul_left}
 use native.Mathlib.Numerals.{add-one}
 use native.Mathlib.Omega.{arith}
 use borrow.Author.Tests.{le-leb, lt-leb}
+use borrow.Rule.Slice.PartMut.{put_mid}
 use lib.ListN.{length, get_or, take, drop, set, length-append, length-take, length-drop, take-append-drop}
 use lib.ListN.{drop_of_length-le, get_or-append}
 use lib.Seq.{take_at, drop_at, drop-drop, get_or-take, get_or-drop, get_or-append-add, length-take-le, drop-length}
@@ -36,13 +37,24 @@ put_four s at a b c d h =
     let three : at + 3 ≡ suc (suc (suc at)) = omega arith in
     rw (add-one, two, three) (put_sets s at (a ∷ b ∷ c ∷ d ∷ []) h)
 
--- what does not fit, and a number that does not fit
+-- one store, and a part that is written over
+pub set_put : (s : List ℕ) (at v : ℕ) → at < length s → set s at v ≡ put_in s at (v ∷ [])
+set_put s at v h = put_sets s at (v ∷ []) (omega arith) ∙ sym (put_in_lem s at (v ∷ []) (omega arith))
+
+pub part_put : (s p q : List ℕ) (at k : ℕ) → q ≡ p → k ≡ length p → at + length p ≤ length s
+    → put_mid at k s q ≡ put_in s at p
+unfolding put
+part_put s p q at k e w h =
+    ap₂ (λ (l : List ℕ) (n : ℕ). take at s ++ (l ++ drop n (drop at s))) e w
+    ∙ ap (λ (l : List ℕ). take at s ++ (p ++ l)) (drop-drop (length p) at s) ∙ sym (put_in_lem s at p h)
+
+-- what does not fit
 pub past_end : (s : List ℕ) (at : ℕ) (p : List ℕ) → length s < at + length p → s ≡ put_in s at p
 unfolding put_in
 past_end s at p h = pick_no _ s _ _ (lt-leb (at + length p) (length s) h) refl
 
-pub too_long : (n : ℕ) (s : List ℕ) (at v : ℕ) → length s < at + n → s ≡ put_in s at (bytes n v)
-too_long n s at v h = past_end s at (bytes n v) (rw bytes_length h)
+-- what proves a write: what it leaves where there is room, and where there is none
+pub ruleset writing = (set_put, part_put, past_end)
 
 pub put_none : (s : List ℕ) (at : ℕ) → put s at [] ≡ s
 unfolding put

@@ -4,16 +4,9 @@ use mathlib.Core.List.{List, ◌∷◌}
 use Prim.Native.Nat.{ℕ, zero, suc, ◌+◌, ◌*◌, ◌/◌, ◌%◌, ◌^◌, ◌≤◌, ◌<◌}
 use native.Mathlib.Nat.{add-zero, suc-add, add-suc, zero-add, add_assoc, pow-succ', one-mul, mul_assoc}
 use native.Mathlib.Omega.{arith}
-use lib.ListN.{length, get_or, take, drop, get_or-eq_default}
+use lib.ListN.{length, get_or, take, drop}
 use lib.Seq.{get_or-drop, get_or-take}
-use Rattle.std.specs.List.{slice_index}
 use Rattle.wire.specs.Bytes.{le, bytes, IsRead}
-
--- past the end there is nothing
-pub le_past : (n : ℕ) (s : List ℕ) (i : ℕ) → length s ≤ i → le n s i ≡ 0
-unfolding le
-le_past zero s i h = refl
-le_past (suc n) s i h = omega (arith, get_or-eq_default s 0 h, le_past n s (i + 1) (omega arith))
 
 -- a number of m + n bytes is one of m bytes and one of n
 pub le_split : (m n : ℕ) (s : List ℕ) (i : ℕ) → le (m + n) s i ≡ le m s i + 256 ^ m * le n s (i + m)
@@ -32,31 +25,6 @@ pub le_four : (s : List ℕ) (i j k l : ℕ) → j ≡ i + 1 → k ≡ i + 2 →
     → le 4 s i ≡ get_or s i 0 + 256 * get_or s j 0 + 65536 * get_or s k 0 + 16777216 * get_or s l 0
 le_four s i j k l ej ek el =
     omega (arith, le_split 2 2 s i, le_two s i j ej, le_two s (i + 2) l (omega arith), ap (λ (n : ℕ). get_or s n 0) ek)
-
--- the number in two bytes that were read, and in four
-pub read_two : (s bs : List ℕ) (i : ℕ) → IsRead s i 2 bs → slice_index bs 0 + slice_index bs 1 * 256 ≡ le 2 s i
-read_two s bs i r =
-    omega (
-      arith,
-      le_two s i (i + 1) refl,
-      add-zero i,
-      ap (λ (n : ℕ). get_or s n 0) (add-zero i),
-      r.1 0 (omega arith),
-      r.1 1 (omega arith),
-    )
-
-pub read_four : (s bs : List ℕ) (i : ℕ) → IsRead s i 4 bs
-    → slice_index bs 0 + slice_index bs 1 * 256 + slice_index bs 2 * 65536 + slice_index bs 3 * 16777216 ≡ le 4 s i
-read_four s bs i r =
-    omega (
-      arith,
-      le_four s i (i + 1) (i + 2) (i + 3) refl refl refl,
-      ap (λ (n : ℕ). get_or s n 0) (add-zero i),
-      r.1 0 (omega arith),
-      r.1 1 (omega arith),
-      r.1 2 (omega arith),
-      r.1 3 (omega arith),
-    )
 
 -- numbers in bytes of 8 bits: 16 bits, and 32
 pub pair_low : (s : List ℕ) (i : ℕ) → ((j : ℕ) → get_or s j 0 < 256) → le 2 s i < 65536
@@ -78,6 +46,10 @@ le_cong (suc n) s t i j h =
   where
     one_more : (k : ℕ) → 1 + k ≡ suc k
     one_more k = omega arith
+
+-- the number in bytes that were read
+pub le_read : (n : ℕ) (s : List ℕ) (i : ℕ) (bs : List ℕ) → IsRead s i n bs → le n s i ≡ le n bs 0
+le_read n s i bs r = le_cong n s bs i 0 (λ k l. rw zero-add (sym (r.1 k l)))
 
 -- a number in a part is the one in the whole
 pub le_drop : (n a : ℕ) (s : List ℕ) (i : ℕ) → le n (drop a s) i ≡ le n s (a + i)

@@ -1,6 +1,6 @@
 -- Laws of a choice by a test, and the set that proves each return of a chain of early returns. Assumes nothing.
 use mathlib.Core.Path.{◌≡◌, refl, sym, ap, ◌∙◌}
-use mathlib.Core.Bool.{Bool, true, false, not, ◌&&◌, ◌||◌, and-false}
+use mathlib.Core.Bool.{Bool, true, false, not, ◌&&◌, ◌||◌}
 use Prim.Native.Nat.{ℕ, ◌≤◌, ◌<◌}
 use native.Mathlib.Omega.{arith}
 use lib.Dec.{leb, eqb}
@@ -8,6 +8,10 @@ use borrow.Author.Tests.{eqb-true, eqb-false, leb-true, lt-ltb, le-ltb, le-leb, 
 use borrow.Author.Tests.{not-false}
 use mir.Val.{bool_byte as from_bool}
 use Rattle.wire.specs.Choice.{pick, within, or_else}
+use Rattle.std.proofs.lemmas.Bool.{and_parts, or_parts}
+-- the library's laws of two tests and of a test turned round, under the names that proofs here go by
+pub use Rattle.std.proofs.lemmas.Bool.{and_from as and_yes, and_left as and_no, and_right as and_no_right}
+pub use Rattle.std.proofs.lemmas.Bool.{not_from_false as flip_yes, not_from_true as flip_no}
 
 module _ {A : Type 0} where
   pub pick_yes : (t : Bool) (x a b : A) → t ≡ true → x ≡ a → x ≡ pick t a b
@@ -48,29 +52,16 @@ pick_least false m a b p q = q
 
 -- two tests at once: their parts, and what the parts say of them
 pub and_left : (a b : Bool) → a && b ≡ true → a ≡ true
-and_left true b e = refl
-and_left false b e = e
+and_left a b e = (and_parts a b e).0
 
 pub and_right : (a b : Bool) → a && b ≡ true → b ≡ true
-and_right true b e = e
-and_right false b e = cc
-
-pub and_yes : (a b : Bool) → a ≡ true → b ≡ true → a && b ≡ true
-and_yes a b p q = rw (p, q)
-
-pub and_no : (a b : Bool) → a ≡ false → a && b ≡ false
-and_no a b p = rw p
-
-pub and_no_right : (a b : Bool) → b ≡ false → a && b ≡ false
-and_no_right a b p = rw p (and-false a)
+and_right a b e = (and_parts a b e).1
 
 pub or_left : (a b : Bool) → a || b ≡ false → a ≡ false
-or_left true b e = e
-or_left false b e = refl
+or_left a b e = (or_parts a b e).0
 
 pub or_right : (a b : Bool) → a || b ≡ false → b ≡ false
-or_right true b e = cc
-or_right false b e = e
+or_right a b e = (or_parts a b e).1
 
 pub bounds : (low high x : ℕ) → within low high x ≡ true → (low ≤ x) × (x ≤ high)
 bounds low high x e =
@@ -90,9 +81,6 @@ or_else_lem a b e = sym (pick_yes _ _ _ _ (eq-eqb a 0 e) refl)
 pub or_first : (a b : ℕ) → (a ≡ 0 → ⊥) → or_else a b ≡ a
 unfolding or_else
 or_first a b n = sym (pick_no _ _ _ _ (ne_eqb a 0 n) refl)
-
-pub or_first_by : (a b n : ℕ) → n ≡ a → (n ≡ 0 → ⊥) → n ≡ or_else a b
-or_first_by a b n e some = e ∙ sym (or_first a b (λ z. some (e ∙ z)))
 
 pub or_else_by : (a b n : ℕ) → a ≡ 0 → n ≡ b → n ≡ or_else a b
 or_else_by a b n z e = e ∙ sym (or_else_lem a b z)
@@ -151,12 +139,6 @@ told_yes t r e n = sym e ∙ not-false r n
 
 pub told_no : (t r : Bool) → r ≡ t → not r ≡ true → t ≡ false
 told_no t r e n = sym e ∙ not-true r n
-
-pub flip_yes : (t : Bool) → t ≡ false → not t ≡ true
-flip_yes t e = rw e
-
-pub flip_no : (t : Bool) → t ≡ true → not t ≡ false
-flip_no t e = rw e
 
 -- what proves each return of a chain of early returns: `search chain`
 pub ruleset chain =

@@ -1,16 +1,17 @@
 -- Laws of a buffer that is filled place by place: what a turn leaves, and what the whole then is. Assumes nothing.
-use mathlib.Core.Path.{◌≡◌, refl, sym, ap, ◌∙◌}
+use mathlib.Core.Path.{◌≡◌, refl, sym, ap, subst, ◌∙◌}
 use mathlib.Core.Logic.{⊎_elim}
 use mathlib.Core.List.{List, [], ◌∷◌}
-use Prim.Native.Nat.{ℕ, ◌+◌, ◌*◌, ◌/◌, ◌%◌, ◌<◌, ◌≤◌}
+use Prim.Native.Nat.{ℕ, ◌+◌, ◌-◌, ◌*◌, ◌/◌, ◌%◌, ◌<◌, ◌≤◌}
 use native.Mathlib.Nat.{eq-or-lt_of_le}
 use native.Mathlib.Omega.{arith}
 use lib.ListN.{length, get_or}
 use lib.Seq.{ext_get_or}
 use Rattle.wire.specs.Bytes.{le, bytes}
-use Rattle.wire.specs.Buffers.{put_in, rows}
+use Rattle.wire.specs.Buffers.{put, put_in, rows}
 use Rattle.wire.proofs.ByteLaws.{bytes_length}
-use Rattle.wire.proofs.BufferLaws.{put_in_lem, le_put, le_put_before, ones_at, ones_length, rows_length, rows_at}
+use Rattle.wire.proofs.BufferLaws.{put_in_lem, get_or_put_after, le_put, le_put_before, ones_at, ones_length}
+use Rattle.wire.proofs.BufferLaws.{rows_length, rows_at}
 
 -- a buffer with a known byte at each place
 pub bytes_are : (f : ℕ → ℕ) (s : List ℕ) (n : ℕ) → length s ≡ n → ((k : ℕ) → k < n → get_or s k 0 ≡ f k)
@@ -33,6 +34,15 @@ module _ (s r : List ℕ) (k v : ℕ) (fits : 2 * k + 2 ≤ length s) (e : r ≡
   pair_put small =
       ap (λ (x : List ℕ). le 2 x (2 * k)) (e ∙ put_in_lem s (2 * k) (bytes 2 v) (omega (arith, bytes_length 2 v)))
       ∙ le_put 2 s (2 * k) v fits small
+
+  pub pair_past : (i : ℕ) → 2 * k + 2 ≤ i → get_or r i 0 ≡ get_or s i 0
+  pair_past i h =
+      let n : length (bytes 2 v) ≡ 2 = bytes_length 2 v in
+      let room : 2 * k + length (bytes 2 v) ≤ length s = omega arith in
+      let place : 2 * k + length (bytes 2 v) + (i - (2 * k + 2)) ≡ i = omega arith in
+      ap (λ (x : List ℕ). get_or x i 0) (e ∙ put_in_lem s (2 * k) (bytes 2 v) room)
+      ∙ subst (λ (j : ℕ). get_or (put s (2 * k) (bytes 2 v)) j 0 ≡ get_or s j 0) place
+      (get_or_put_after s (2 * k) (bytes 2 v) room (i - (2 * k + 2)))
 
 -- the bytes of a number that is read
 pair_bytes : (s : List ℕ) (i v : ℕ) → get_or s i 0 < 256 → get_or s (i + 1) 0 < 256 → le 2 s i ≡ v

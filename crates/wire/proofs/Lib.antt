@@ -1,5 +1,6 @@
 pub mod RefusalLaws
 pub mod ChoiceLaws
+pub mod ChosenLaws
 pub mod AnswerLaws
 pub mod BelowLaws
 pub mod ByteLaws
@@ -10,3 +11,4 @@ pub mod ChainLaws
 pub mod KeptLaws
 pub mod PartLaws
 pub mod Unique
+pub mod ChunkLaws

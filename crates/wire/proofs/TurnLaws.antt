@@ -1,13 +1,13 @@
--- Laws of loops that write piece after piece: a byte a turn, or 16 bits. Assumes nothing.
-use mathlib.Core.Path.{◌≡◌, refl, ap, ◌∙◌}
-use mathlib.Core.List.{List, [], ◌∷◌, ◌++◌}
-use Prim.Native.Nat.{ℕ, ◌+◌, ◌*◌, ◌<◌, ◌≤◌}
+-- Laws of loops that write piece after piece, 16 bits a turn among them. Assumes nothing.
+use mathlib.Core.Path.{◌≡◌, ap, ◌∙◌}
+use mathlib.Core.List.{List, ◌++◌}
+use Prim.Native.Nat.{ℕ, ◌+◌, ◌*◌, ◌≤◌}
 use native.Mathlib.Omega.{arith}
 use lib.ListN.{length}
 use Rattle.wire.specs.Bytes.{bytes}
 use Rattle.wire.specs.Buffers.{put, put_in, rows}
 use Rattle.wire.proofs.ByteLaws.{bytes_length}
-use Rattle.wire.proofs.BufferLaws.{put_in_lem, put_whole, length_put, then, then_row, rows_length}
+use Rattle.wire.proofs.BufferLaws.{put_in_lem, length_put, then, then_row, rows_length}
 
 -- the next piece, where it fits
 pub then_in : (s r r' p q : List ℕ) (at k : ℕ) → r ≡ put s at p → k ≡ at + length p → r' ≡ put_in r k q
@@ -26,24 +26,7 @@ row_turn f w each s r r' at k l e is e' h =
     let n : length r ≡ length s = ap length e ∙ length_put s at (rows f l) (omega arith) in
     then_row f w each s r r' at k l (omega arith) is e (e' ∙ put_in_lem r k (f l) (omega (arith, each l)))
 
--- rows over the whole buffer
-pub rows_all : (f : ℕ → List ℕ) (w : ℕ) → ((j : ℕ) → length (f j) ≡ w) → (s r : List ℕ) (k n : ℕ)
-    → r ≡ put s 0 (rows f k) → k ≡ n → length s ≡ w * n → r ≡ rows f n
-rows_all f w each s r k n e is l =
-    e ∙ ap (λ (m : ℕ). put s 0 (rows f m)) is ∙ put_whole s (rows f n) (omega (arith, rows_length f w each n))
-
--- ---- a byte a turn, from the buffer's start
-pub byte_turn : (f : ℕ → ℕ) (s r r' : List ℕ) (k v : ℕ) → r ≡ put s 0 (rows (λ j. f j ∷ []) k) → v ≡ f k
-    → r' ≡ put_in r k (v ∷ []) → k < length s → r' ≡ put s 0 (rows (λ j. f j ∷ []) (k + 1))
-byte_turn f s r r' k v e w e' h =
-    row_turn (λ j. f j ∷ []) 1 (λ j. refl) s r r' 0 k k e (omega arith) (e' ∙ ap (λ (x : ℕ). put_in r k (x ∷ [])) w)
-    (omega arith)
-
-pub bytes_all : (f : ℕ → ℕ) (s r : List ℕ) (k n : ℕ) → r ≡ put s 0 (rows (λ j. f j ∷ []) k) → k ≡ n → length s ≡ n
-    → r ≡ rows (λ j. f j ∷ []) n
-bytes_all f s r k n e w l = rows_all (λ j. f j ∷ []) 1 (λ j. refl) s r k n e w (omega arith)
-
--- ---- 16 bits a turn
+-- 16 bits a turn
 pub pair_turn : (f : ℕ → ℕ) (s r r' : List ℕ) (at k l : ℕ) → r ≡ put s at (rows (λ j. bytes 2 (f j)) l)
     → k ≡ at + 2 * l
     → r' ≡ put_in r k (bytes 2 (f l)) → k + 2 ≤ length s → r' ≡ put s at (rows (λ j. bytes 2 (f j)) (l + 1))

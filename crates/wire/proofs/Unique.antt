@@ -5,6 +5,7 @@ use Prim.Native.Nat.{ℕ}
 use Rattle.wire.proofs.read.get8.Reads as get8
 use Rattle.wire.proofs.read.get16.Reads as get16
 use Rattle.wire.proofs.read.get32.Reads as get32
+use Rattle.wire.proofs.read.get64.Reads as get64
 use Rattle.wire.proofs.refusal.Refusal.number.Reads as number
 use Rattle.wire.proofs.write.put8.Reads as put8
 use Rattle.wire.proofs.write.put16.Reads as put16
@@ -18,6 +19,9 @@ get16_unique κs a r₁ r₂ s₁ s₂ p q = p ∙ sym q
 
 pub get32_unique : (κs : _) (a : _) (r₁ r₂ : ℕ) (s₁ s₂ : _) → get32.Post κs a r₁ s₁ → get32.Post κs a r₂ s₂ → r₁ ≡ r₂
 get32_unique κs a r₁ r₂ s₁ s₂ p q = p ∙ sym q
+
+pub get64_unique : (κs : _) (a : _) (r₁ r₂ : ℕ) (s₁ s₂ : _) → get64.Post κs a r₁ s₁ → get64.Post κs a r₂ s₂ → r₁ ≡ r₂
+get64_unique κs a r₁ r₂ s₁ s₂ p q = p ∙ sym q
 
 pub put8_unique : (κs : _) (a : _) (r₁ r₂ : _) (s₁ s₂ : _) → put8.Post κs a r₁ s₁ → put8.Post κs a r₂ s₂
     → s₁.0.now ≡ s₂.0.now

@@ -6,7 +6,7 @@ ghost use Rattle.wire.specs.Bytes.{le, IsRead};
 pub fn get8(s: &[u8], at: usize) -> u8
     ensures { result ≡ get_or s.now at 0 }
 {
-    if at < s.len() { s[at] } else { 0 }
+    s.get(at).copied().unwrap_or(0)
 }
 
 // The bytes from a place on; past the end none.
@@ -29,7 +29,9 @@ fn bytes_at<const N: usize>(s: &[u8], at: usize) -> [u8; N]
     bytes
 }
 
-// The 16 bits at a place, the low byte first.
+// The 16 bits at a place, the low byte first. A function for each size, which callers name; `from_le_bytes` is each
+// type's own.
+#[tactic(auto, using(crate::proofs::ByteLaws::le_read), unfolding(crate::specs::Bytes::le))]
 pub fn get16(s: &[u8], at: usize) -> u16
     ensures { result ≡ le 2 s.now at }
 {
@@ -37,8 +39,17 @@ pub fn get16(s: &[u8], at: usize) -> u16
 }
 
 // The 32 bits at a place, the low byte first.
+#[tactic(auto, using(crate::proofs::ByteLaws::le_read), unfolding(crate::specs::Bytes::le))]
 pub fn get32(s: &[u8], at: usize) -> u32
     ensures { result ≡ le 4 s.now at }
 {
     u32::from_le_bytes(bytes_at(s, at))
+}
+
+// The 64 bits at a place, the low byte first.
+#[tactic(auto, using(crate::proofs::ByteLaws::le_read), unfolding(crate::specs::Bytes::le))]
+pub fn get64(s: &[u8], at: usize) -> u64
+    ensures { result ≡ le 8 s.now at }
+{
+    u64::from_le_bytes(bytes_at(s, at))
 }

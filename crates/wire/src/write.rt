@@ -3,7 +3,9 @@ ghost use Rattle.std.specs.Prelude.{◌≡◌, [], ◌∷◌};
 ghost use Rattle.wire.specs.Bytes.{bytes};
 ghost use Rattle.wire.specs.Buffers.{put_in};
 
-// One byte at a place.
+// One byte at a place. By a test and not by `get_mut`: that was tried, and once the byte is written a proof knows only
+// how long the buffer is.
+#[tactic(auto, using(crate::proofs::BufferLaws::writing))]
 pub fn put8(s: &mut [u8], at: usize, v: u8)
     ensures { s.new ≡ put_in s.old at (v ∷ []) }
 {
@@ -13,6 +15,7 @@ pub fn put8(s: &mut [u8], at: usize, v: u8)
 }
 
 // Some bytes from a place on.
+#[tactic(auto, using(crate::proofs::BufferLaws::writing))]
 fn put_bytes(s: &mut [u8], at: usize, v: &[u8])
     ensures { s.new ≡ put_in s.old at v.now }
 {
@@ -26,6 +29,7 @@ fn put_bytes(s: &mut [u8], at: usize, v: &[u8])
 }
 
 // 16 bits at a place, the low byte first.
+#[tactic(auto, unfolding(crate::specs::Bytes::bytes))]
 pub fn put16(s: &mut [u8], at: usize, v: u16)
     ensures { s.new ≡ put_in s.old at (bytes 2 v) }
 {
@@ -33,6 +37,7 @@ pub fn put16(s: &mut [u8], at: usize, v: u16)
 }
 
 // 32 bits at a place, the low byte first.
+#[tactic(auto, unfolding(crate::specs::Bytes::bytes))]
 pub fn put32(s: &mut [u8], at: usize, v: u32)
     ensures { s.new ≡ put_in s.old at (bytes 4 v) }
 {

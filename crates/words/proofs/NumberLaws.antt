@@ -1,5 +1,5 @@
 -- Laws of a word's digits: a step, where they end, and how large a number they name. Assumes nothing.
-use mathlib.Core.Path.{◌≡◌, refl}
+use mathlib.Core.Path.{◌≡◌, refl, ap, sym, ◌∙◌}
 use mathlib.Core.Bool.{Bool, true, false, ◌&&◌}
 use mathlib.Core.List.{List}
 use Prim.Native.Nat.{ℕ, zero, suc, ◌+◌, ◌*◌, ◌-◌, ◌≤◌, ◌<◌, zero-le}
@@ -70,9 +70,11 @@ module _ (s : List ℕ) where
       pick_no _ _ (worth s (length s)) _
       (and_no_right (leb (length s) 9) _ (every_fails (λ k. is_digit (get_or s k 0)) i (length s) l e)) refl
 
-  pub all_digits : length s ≤ 9 → digits s (length s) ≡ true → worth s (length s) ≡ number_in s
+  pub all_digits : (i : ℕ) → i ≡ length s → i ≤ 9 → digits s i ≡ true → worth s i ≡ number_in s
   unfolding number_in
-  all_digits l e = pick_yes _ _ _ _ (and_yes _ _ (le-leb _ _ l) e) refl
+  all_digits i end l e =
+      ap (worth s) end
+      ∙ pick_yes _ _ _ _ (and_yes _ _ (le-leb (length s) 9 (omega arith)) (ap (digits s) (sym end) ∙ e)) refl
 
   -- a word of one byte at the most names a digit
   pub one_digit : (n : ℕ) → n ≡ number_in s → length s ≤ 1 → n ≤ 9
@@ -82,3 +84,7 @@ module _ (s : List ℕ) where
       go : (t : Bool) → leb (length s) 9 && digits s (length s) ≡ t → pick t (worth s (length s)) 0 ≤ 9
       go true e = omega (arith, worth_less (length s) (and_right (leb (length s) 9) _ e), ten_up (length s) 1 l)
       go false e = zero-le
+
+-- the laws by which a word is read
+pub ruleset reading =
+    (digits_none, digits_more, worth_none, worth_more, worth_small, too_long, no_digit, all_digits)

@@ -4,7 +4,8 @@ ghost use Rattle.std.specs.Prelude.{◌≤◌, length};
 use std::env::{Env, FillError};
 
 // Puts the word at a place, counted from 0, in the room, and answers it: no bytes where there is no such word, and
-// where it is longer than the room.
+// where it is longer than the room. No Option: it promises bytes, and its callers refuse none as they refuse
+// wrong ones.
 pub fn word_at<'a>(rt: &HostRuntime, place: usize, room: &'a mut [u8]) -> &'a [u8]
     ensures { length result.now ≤ length room.old }
 {

@@ -4,8 +4,8 @@ ghost use Rattle.words.specs.Line.{Adds};
 
 use crate::line::Line;
 
-pub fn add_rulebook<const N: usize>(line: &mut Line<N>, rulebook: u8)
-    ensures { Adds N line.old line.new }
+pub fn add_rulebook(line: &mut Line, rulebook: u8)
+    ensures { Adds line.old line.new }
 {
     match rulebook {
         1 => line.add_text(b"DCE"),
@@ -13,8 +13,8 @@ pub fn add_rulebook<const N: usize>(line: &mut Line<N>, rulebook: u8)
     }
 }
 
-pub fn add_sort<const N: usize>(line: &mut Line<N>, sort: u8)
-    ensures { Adds N line.old line.new }
+pub fn add_sort(line: &mut Line, sort: u8)
+    ensures { Adds line.old line.new }
 {
     match sort {
         1 => line.add_text(b"futures"),
@@ -22,8 +22,8 @@ pub fn add_sort<const N: usize>(line: &mut Line<N>, sort: u8)
     }
 }
 
-pub fn add_kind<const N: usize>(line: &mut Line<N>, kind: u8)
-    ensures { Adds N line.old line.new }
+pub fn add_kind(line: &mut Line, kind: u8)
+    ensures { Adds line.old line.new }
 {
     match kind {
         1 => line.add_text(b"self-trade"),
@@ -32,8 +32,8 @@ pub fn add_kind<const N: usize>(line: &mut Line<N>, kind: u8)
     }
 }
 
-pub fn add_instruction<const N: usize>(line: &mut Line<N>, instruction: u8)
-    ensures { Adds N line.old line.new }
+pub fn add_instruction(line: &mut Line, instruction: u8)
+    ensures { Adds line.old line.new }
 {
     match instruction {
         1 => line.add_text(b"plain limit"),
@@ -45,8 +45,8 @@ pub fn add_instruction<const N: usize>(line: &mut Line<N>, instruction: u8)
     }
 }
 
-pub fn add_purpose<const N: usize>(line: &mut Line<N>, purpose: u8)
-    ensures { Adds N line.old line.new }
+pub fn add_purpose(line: &mut Line, purpose: u8)
+    ensures { Adds line.old line.new }
 {
     match purpose {
         1 => line.add_text(b"ordinary"),
@@ -57,8 +57,8 @@ pub fn add_purpose<const N: usize>(line: &mut Line<N>, purpose: u8)
 }
 
 // By which clause an order is exempt, or that it counts.
-pub fn add_clause<const N: usize>(line: &mut Line<N>, clause: u8)
-    ensures { Adds N line.old line.new }
+pub fn add_clause(line: &mut Line, clause: u8)
+    ensures { Adds line.old line.new }
 {
     match clause {
         0 => line.add_text(b"counts"),

@@ -15,8 +15,9 @@ fn digit_of(byte: u8) -> u32
     (byte - b'0') as u32
 }
 
-// The number that 1 to 9 decimal digits name. Anything else is 0: no Option, since the theorem `number_in_unique` holds
-// that answer.
+// The number that 1 to 9 decimal digits name, and 0 of anything else, as `number_in` promises of every word: no Option,
+// and no `parse`, which takes `+5` and a tenth digit too. Each caller refuses the number 0.
+#[tactic(auto, using(crate::proofs::NumberLaws::reading))]
 pub fn number_in(word: &[u8]) -> u32
     ensures { result ≡ number_in word.now }
 {

@@ -11,4 +11,4 @@ unfolding ids_in
 returns c =
     let a = c.args in
     pairs_are (λ k. (contract_in a.contracts.now k).id) _ (entries a.contracts.now) (omega arith)
-    (λ i. omega (arith, c.type_inv.ids i)) (λ k h. let p = c.fill_pairs.ensures k (omega arith) in search rules)
+    (λ i. omega (arith, c.type_inv.ids i)) (λ k h. let p = c.fill_pairs.ensures.pairs k (omega arith) in search rules)

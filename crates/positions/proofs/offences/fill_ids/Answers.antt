@@ -14,7 +14,7 @@ returns c =
     let a = c.args in
     pairs_are (λ k. (limited_at a.contracts.now k).id) _ (limit_count a.contracts.now) (omega arith)
     (λ i. omega (arith, c.type_inv.ids i)) (λ k h.
-    let p = c.fill_pairs.ensures k (omega arith) in
+    let p = c.fill_pairs.ensures.pairs k (omega arith) in
     let entries = c.as_chunks.result.0.now in
     let here = ap (λ e. e.id) (limited_here a.contracts.now entries k [] c.as_chunks.ensures.front h) in
     search rules)

@@ -1,29 +1,26 @@
 use mathlib.Core.Path.{◌≡◌, refl, ap, ◌∙◌}
 use native.Mathlib.Omega.{arith}
 use Rattle.wire.proofs.BelowLaws.{every_none, every_more}
+use Rattle.rules.specs.Kinds.{kinds_in}
 use Rattle.positions.specs.Records.{record_count, contract_before, account_before}
-use Rattle.positions.specs.Way.{long_to, short_to}
 use Rattle.positions.proofs.EntryLaws.{contract_before_lem, account_before_lem}
-use Rattle.positions.proofs.RecordLaws.{looked, turn_bad, turn_good, turn_place, turn_cell, side_none}
-use Rattle.positions.proofs.RecordLaws.{side_turn, side_most, long_most, short_most, all_bad, all_good}
+use Rattle.positions.proofs.RecordLaws.{looked, turn_bad, turn_good, turn_cell, side_none}
+use Rattle.positions.proofs.RecordLaws.{side_turn, side_most, long_most, short_most, all_bad, all_good, sums_all}
 use Rattle.wire.proofs.ChoiceLaws.{flip_yes, flip_no}
 use Rattle.positions.proofs.sums.add_records.Goals as goal
 
 pub loop-row-init : goal.loop-row-init
-unfolding contract_before account_before
+unfolding contract_before account_before kinds_in
 loop-row-init c =
-    let p = c.requires in
-    let a = c.args in (
+    let a = c.args in
+    let good = c.requires.1 in (
       refl,
       refl,
       c.limit_place-place.ensures,
       every_none _,
-      p.3 ∙ side_none a.contracts.now a.accounts.now a.records.now p.1 (λ r. r.long),
-      p.4 ∙ side_none a.contracts.now a.accounts.now a.records.now p.1 (λ r. r.short),
+      side_none a.contracts.now a.accounts.now a.records.now good (λ r. r.long),
+      side_none a.contracts.now a.accounts.now a.records.now good (λ r. r.short),
     )
-
-pub next_place-place-requires : goal.next_place-place-requires
-next_place-place-requires c = c.loop-row.invariant.2
 
 pub returns-then-not-fields_good-place : goal.returns-then-not-fields_good-place
 returns-then-not-fields_good-place c =
@@ -35,25 +32,7 @@ returns-then-not-fields_good-place c =
     let bad = turn_bad a.contracts.now a.accounts.now a.records.now
     c.requires.1
     look c.fields_good.ensures (flip_yes _ c.if-not-fields_good-place.true) in
-    let none = all_bad a.contracts.now a.accounts.now a.records.now
-    c.requires.1 l.row-index
-    (omega arith) bad in
-    record { value = none; sums_after = λ e. (cc, cc) }
-
-pub overflow_cast-place : goal.overflow_cast-place
-overflow_cast-place c =
-    let l = c.loop-row in
-    let look = looked c.args.contracts.now c.args.accounts.now c.args.records.now c.requires.1 _
-    c.as_chunks.ensures.front (omega arith) c.position_of-r.ensures l.invariant.0 l.invariant.1
-    c.next_place-place.ensures c.find_account-entry.ensures.by_halving in
-    let a = c.args in
-    omega (
-      arith,
-      turn_place a.contracts.now a.accounts.now a.records.now
-          c.requires.1
-          look c.fields_good.ensures (flip_no _ c.if-not-fields_good-place.false),
-      c.requires.0,
-    )
+    all_bad a.contracts.now a.accounts.now a.records.now c.requires.1 l.row-index (omega arith) bad
 
 pub add-requires : goal.add-requires
 add-requires c =
@@ -117,15 +96,8 @@ pub returns : goal.returns
 returns c =
     let a = c.args in
     let l = c.loop-row in
-    let e : l.row-index ≡ record_count a.records.now = omega arith in
-    let all = all_good a.contracts.now a.accounts.now a.records.now
-    c.requires.1 l.row-index e
-    l.invariant.3 in
-    record {
-      value = all;
-      sums_after =
-          λ _. (
-            l.invariant.4 ∙ ap (long_to a.contracts.now a.accounts.now a.records.now) e,
-            l.invariant.5 ∙ ap (short_to a.contracts.now a.accounts.now a.records.now) e,
-          );
-    }
+    let e : l.row-index ≡ record_count a.records.now = omega arith in (
+      all_good a.contracts.now a.accounts.now a.records.now c.requires.1 l.row-index e l.invariant.3,
+      sums_all a.contracts.now a.accounts.now a.records.now c.requires.1 l.sums l.row-index e l.invariant.4
+          l.invariant.5,
+    )

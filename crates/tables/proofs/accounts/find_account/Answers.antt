@@ -3,7 +3,8 @@ use mathlib.Core.Path.{◌≡◌, sym, ◌∙◌}
 use native.Mathlib.Omega.{arith}
 use lib.ListN.{length}
 use Rattle.tables.specs.Entries.{entries}
-use Rattle.tables.proofs.EntryLaws.{chunk_here, number_here}
+use Rattle.wire.proofs.ChunkLaws.{chunk_here}
+use Rattle.tables.proofs.EntryLaws.{number_here}
 use Rattle.tables.proofs.Search.{halved_fits, found_here, found_not, found_both}
 use Rattle.tables.proofs.accounts.find_account.Goals as goal
 
@@ -26,7 +27,7 @@ returns-then-get32-number c =
     let fits = halved_fits _ _ _ c.halving.ensures (omega arith) in
     let cut = c.as_chunks.ensures.front in
     let q = found_both s c.args.number _
-    (chunk_here s _ k [] cut (omega arith)
+    (chunk_here 8 s _ _ k [] cut (omega arith)
     ∙ found_here _ _ k c.halving.ensures (omega arith)
     (sym (number_here s _ k [] cut (omega arith)) ∙ sym c.get32.ensures ∙ c.if-get32-number.true)) in
     record { by_halving = q.0; in_order = q.1 }

@@ -1,9 +1,10 @@
-use Rattle.std.proofs.Common.{◌∙◌, ◌&&◌, Bool, ℕ, List, rules, ap}
+use Rattle.std.proofs.Common.{◌∙◌, ◌&&◌, Bool, ℕ, List, [], rules, ap}
 use lib.Dec.{eqb}
 use Rattle.std.proofs.lemmas.Iterator.{YieldsList-from_slice}
 use Rattle.std.proofs.lemmas.Iterator.Search.{any_from_yields_List}
+use Rattle.wire.proofs.ChunkLaws.{some_in}
 use Rattle.tables.specs.Accounts.{account_at, has_member}
-use Rattle.tables.proofs.EntryLaws.{account_here, some_in}
+use Rattle.tables.proofs.EntryLaws.{account_here}
 use Rattle.tables.proofs.accounts.has_member.Goals as goal
 
 abbrev member : ℕ → List ℕ → Bool
@@ -17,6 +18,6 @@ returns c =
     let es = c.as_chunks.result.0.now in
     any_from_yields_List (member group) _ _ c.any.result c.any.ensures.ran (YieldsList-from_slice es cc)
     (λ x b q k. search rules)
-    ∙ some_in (member group) (λ k. eqb (account_at s k).group group && eqb (account_at s k).kind 2) es _
+    ∙ some_in (member group) (λ k. eqb (account_at s k).group group && eqb (account_at s k).kind 2) es [] _
     c.as_chunks.ensures.front_len
-    (λ k x h. ap (λ e. eqb e.group group && eqb e.kind 2) (account_here s es k x c.as_chunks.ensures.front h))
+    (λ k h. ap (λ e. eqb e.group group && eqb e.kind 2) (account_here s es k [] c.as_chunks.ensures.front h))

@@ -1,32 +1,33 @@
-use mathlib.Core.Path.{◌≡◌, ◌∙◌, ap}
-use native.Mathlib.Omega.{arith}
-use borrow.Author.Count.{below_more}
-use borrow.Author.Tests.{ne_eqb}
-use Rattle.tables.specs.ContractEntries.{contract_at}
-use Rattle.tables.proofs.EntryLaws.{contract_here, found_at, found_nothing}
+use Rattle.std.proofs.Common.{◌∙◌, sym, rules}
+use Rattle.std.proofs.lemmas.Iterator.{YieldsList-from_slice}
+use Rattle.std.proofs.lemmas.Iterator.Search.{position_from_yields_List}
+use Rattle.tables.proofs.EntryLaws.{is_id, id_placed, found_at, found_nothing}
 use Rattle.tables.proofs.contracts.find_contract.Goals as goal
 
-pub loop-k-init : goal.loop-k-init
-loop-k-init c = λ j l. absurd (omega arith)
-
-pub returns-then-e-id : goal.returns-then-e-id
-returns-then-e-id c =
+pub returns-in_err-k : goal.returns-in_err-k
+returns-in_err-k c =
     let s = c.args.part.now in
-    let l = c.loop-k in
-    let here : c.contract_of-e.result ≡ contract_at s l.k =
-    c.contract_of-e.ensures ∙ contract_here s _ l.k _ c.as_chunks.ensures.front (omega arith) in
-    found_at s _ l.k _ (omega arith) l.invariant here c.if-e-id.true
-
-pub loop-k-preserved : goal.loop-k-preserved
-loop-k-preserved c =
-    let s = c.args.part.now in
-    let l = c.loop-k in
-    let here : c.contract_of-e.result ≡ contract_at s l.k =
-    c.contract_of-e.ensures ∙ contract_here s _ l.k _ c.as_chunks.ensures.front (omega arith) in
-    below_more _ l.k l.invariant (ne_eqb _ _ (λ q. c.if-e-id.false (ap (λ x. x.id) here ∙ q)))
+    let es = c.as_chunks.result.0.now in
+    let id = c.args.id in
+    let cut = c.as_chunks.ensures.front in
+    let len = c.as_chunks.ensures.front_len in
+    c.from_residual.ensures
+    ∙ found_nothing s es id cut len
+    (sym c.in_err-k.was
+    ∙ id_placed s es id cut len _
+    (position_from_yields_List (is_id s es id cut len) _ _ c.position.result c.position.ensures.ran
+    (YieldsList-from_slice es cc) (λ x b q k. search rules)))
 
 pub returns : goal.returns
 returns c =
     let s = c.args.part.now in
-    let l = c.loop-k in
-    found_nothing s _ (λ j h. l.invariant j (omega arith))
+    let es = c.as_chunks.result.0.now in
+    let id = c.args.id in
+    let cut = c.as_chunks.ensures.front in
+    let len = c.as_chunks.ensures.front_len in
+    found_at s es id cut len _ _
+    (sym c.in_ok-k.was
+    ∙ id_placed s es id cut len _
+    (position_from_yields_List (is_id s es id cut len) _ _ c.position.result c.position.ensures.ran
+    (YieldsList-from_slice es cc) (λ x b q k. search rules)))
+    c.contract_of.ensures

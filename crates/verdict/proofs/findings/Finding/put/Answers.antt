@@ -1,14 +1,5 @@
 use Rattle.verdict.proofs.FoundLaws.{finding_written}
-use Rattle.places.proofs.LadderLaws.{group_low}
-use native.Mathlib.Omega.{arith}
 use Rattle.verdict.proofs.findings.Finding.put.Goals as goal
-
-pub overflow_cast-group : goal.overflow_cast-group
-overflow_cast-group c = omega (
-  arith,
-  group_low c.args.self.kinds c.args.self.ladder
-      c.requires.1,
-)
 
 pub returns : goal.returns
 returns c =

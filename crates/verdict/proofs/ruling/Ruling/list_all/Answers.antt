@@ -1,4 +1,3 @@
-use Rattle.rules.proofs.KindLaws.{few}
 use Rattle.verdict.proofs.FoundLaws.{count_room, found_more, found_turn}
 use Rattle.verdict.specs.Verdict.{verdict_in, found_count, findings}
 use Rattle.places.specs.Places.{ladders}
@@ -25,13 +24,6 @@ list_one-n-requires c =
           c.requires
           c.loop-l.invariant.1,
     )
-
-pub overflow_step-l : goal.overflow_step-l
-overflow_step-l c = omega (
-  arith,
-  few c.args.self.now.shape.kinds,
-  c.ladders_in-l-end.ensures,
-)
 
 pub loop-l-preserved : goal.loop-l-preserved
 loop-l-preserved c =

@@ -1,16 +1,6 @@
 use Rattle.verdict.proofs.FoundLaws.{more_yes, more_no, room_yes}
 use Rattle.verdict.proofs.FoundLaws.{place_hit, place_none, finding_here, finding_none}
-use Rattle.rules.proofs.KindLaws.{few}
-use native.Mathlib.Omega.{arith}
 use Rattle.verdict.proofs.ruling.Ruling.list_one.Goals as goal
-
-pub overflow_mul-ladder : goal.overflow_mul-ladder
-overflow_mul-ladder c =
-    omega (arith, few c.args.self.now.shape.kinds)
-
-pub overflow_add-ladder : goal.overflow_add-ladder
-overflow_add-ladder c =
-    omega (arith, few c.args.self.now.shape.kinds)
 
 pub put-requires : goal.put-requires
 put-requires c =

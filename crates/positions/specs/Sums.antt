@@ -1,0 +1,16 @@
+-- The sums of both sides as they are handed out: over all records, of the tables' parts and of a log.
+use Rattle.std.specs.Prelude.{ℕ, List}
+use Rattle.daylog.specs.declared.header.Header.{Header}
+use Rattle.positions.specs.declared.sums.Sums.{Sums}
+use Rattle.positions.specs.Records.{record_count}
+use Rattle.positions.specs.Log.{limits_part, accounts_part, records_part}
+use Rattle.positions.specs.Way.{long_to, short_to}
+
+abbrev pub sums_of : (contracts accounts records : List ℕ) → Sums
+sums_of contracts accounts records = record {
+  longs = long_to contracts accounts records (record_count records);
+  shorts = short_to contracts accounts records (record_count records);
+}
+
+abbrev pub sums_in : Header → List ℕ → Sums
+sums_in h log = sums_of (limits_part h log) (accounts_part h log) (records_part h log)

@@ -1,8 +1,0 @@
-use mathlib.Core.Path.{◌≡◌}
-use Prim.Native.Nat.{◌≤◌}
-use Rattle.wire.specs.Below.{count}
-use Rattle.posting.specs.Raise.{hit_at}
-use Rattle.verdict.proofs.count.count_found.Given as goal
-
-abbrev pub invariant-loop-l : goal.invariant-loop-l
-invariant-loop-l l = (l.n ≤ l.l) × (l.n ≡ count (hit_at l.places l.contracts) l.l)

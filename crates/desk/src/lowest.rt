@@ -1,5 +1,5 @@
 // A day's lowest places: a byte for each ladder of its rulebook, in room that serves every rulebook, as there is no
-// heap.
+// heap. An ArrayVec would be made full and cut, and put one more library under the desk for this one buffer.
 ghost use Rattle.std.specs.Prelude.{◌≡◌, ◌≤◌, ℕ, List, ◌*◌, take};
 ghost use Rattle.rules.specs.Kinds.{most_kinds};
 

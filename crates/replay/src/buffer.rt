@@ -1,50 +1,27 @@
-// A buffer at its largest, of which so many elements are in use, from the first on. No ArrayVec: it comes to hold so
-// many of one value only by one push after another.
-ghost use Rattle.std.specs.Prelude.{◌≤◌};
-
+// What a script puts in a buffer: a vector of fixed capacity, which lies in the setup itself.
 use crate::stop::Stop;
+use arrayvec::ArrayVec;
 
-#[derive(Drop)]
-pub(crate) struct Buffer<T: Copy + Drop, const N: usize> {
-    all: [T; N],
-    used: usize,
-    ghost within: { used ≤ N },
+// So many elements, each of this value.
+pub(crate) fn set<T: Copy + Default + Drop, const N: usize>(
+    buffer: &mut ArrayVec<T, N>,
+    count: usize,
+    value: T,
+) -> Result<(), Stop> {
+    buffer.clear();
+    for _ in 0..count {
+        buffer.try_push(value).map_err(|_| Stop::BadScript)?;
+    }
+    Ok(())
 }
 
-impl<T: Copy + Drop, const N: usize> Buffer<T, N> {
-    pub(crate) fn empty(value: T) -> Self {
-        Buffer {
-            all: [value; N],
-            used: 0,
-        }
-    }
-
-    pub(crate) fn in_use(&self) -> &[T] {
-        &self.all[..self.used]
-    }
-
-    pub(crate) fn in_use_mut(&mut self) -> &mut [T] {
-        let used = self.used;
-        let all = &mut self.all;
-        &mut all[..used]
-    }
-
-    // So many elements, each of this value.
-    pub(crate) fn set(&mut self, count: usize, value: T) -> Result<(), Stop> {
-        let part = self.all.get_mut(..count).ok_or(Stop::BadScript)?;
-        // `fill` clones, and not every `T: Copy` says that its clone cannot fail.
-        for x in part {
-            *x = value;
-        }
-        self.used = count;
-        Ok(())
-    }
-
-    // These elements.
-    pub(crate) fn set_to(&mut self, from: &[T]) -> Result<(), Stop> {
-        let part = self.all.get_mut(..from.len()).ok_or(Stop::BadScript)?;
-        part.copy_from_slice(from);
-        self.used = from.len();
-        Ok(())
-    }
+// These elements.
+pub(crate) fn set_to<const N: usize>(
+    buffer: &mut ArrayVec<u8, N>,
+    from: &[u8],
+) -> Result<(), Stop> {
+    buffer.clear();
+    buffer
+        .try_extend_from_slice(from)
+        .map_err(|_| Stop::BadScript)
 }

@@ -79,10 +79,10 @@ fn ask(one: &[u8], book: &[u8]) -> Result<Told, Refusal> {
 // none after it; in a table of functions all would need one type, though each takes other parts.
 fn make(one: &[u8], setup: &mut Setup) -> Result<Told, Refusal> {
     let state = &mut setup.state;
-    let tables = setup.tables.in_use();
-    let book = setup.book.in_use_mut();
-    let counts = setup.counts.in_use_mut();
-    let findings = setup.findings.in_use_mut();
+    let tables = setup.tables.as_slice();
+    let book = setup.book.as_mut_slice();
+    let counts = setup.counts.as_mut_slice();
+    let findings = setup.findings.as_mut_slice();
     match get8(one, 0) {
         b'f' => fresh(one, book),
         b'o' => open(state, tables, book, counts),
@@ -98,9 +98,9 @@ fn make(one: &[u8], setup: &mut Setup) -> Result<Told, Refusal> {
 pub(crate) fn call(rt: &HostRuntime, one: &[u8], setup: &mut Setup) -> io::Result<()> {
     let made = make(one, setup);
     let sums = [
-        of_bytes(setup.book.in_use()),
-        of_numbers(setup.counts.in_use()),
-        of_bytes(setup.findings.in_use()),
+        of_bytes(setup.book.as_slice()),
+        of_numbers(setup.counts.as_slice()),
+        of_bytes(setup.findings.as_slice()),
     ];
     print(rt, one, made, Some(setup.state), &sums)
 }

@@ -1,4 +1,5 @@
--- What a ladder's lowest place is, by what it is judged by.
+-- The way, not the meaning: a ladder's lowest place (specs/Way) by what it is judged by. What offends is
+-- specs/Offences.
 use Rattle.std.specs.Prelude.{ℕ, Bool, List}
 use Rattle.positions.specs.declared.judging.Judging.{Judging}
 use Rattle.positions.specs.Way.{over_at, place_at, places_in}

@@ -1,4 +1,5 @@
--- The sums of both sides as they are handed out: over all records, of the tables' parts and of a log.
+-- The way, not the meaning: both sides' sums (specs/Way) as they are handed out, over all records. What is held is
+-- `held_of`, specs/Offences.
 use Rattle.std.specs.Prelude.{ℕ, List}
 use Rattle.daylog.specs.declared.header.Header.{Header}
 use Rattle.positions.specs.declared.sums.Sums.{Sums}

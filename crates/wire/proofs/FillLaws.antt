@@ -7,6 +7,7 @@ use native.Mathlib.Nat.{eq-or-lt_of_le}
 use native.Mathlib.Omega.{arith}
 use lib.ListN.{length, get_or}
 use lib.Seq.{ext_get_or}
+use Rattle.std.proofs.lemmas.Bool.{cases_lt}
 use Rattle.wire.specs.Bytes.{le, bytes}
 use Rattle.wire.specs.Buffers.{put, put_in, rows}
 use Rattle.wire.proofs.ByteLaws.{bytes_length}
@@ -77,3 +78,26 @@ pairs_are f s n l small h =
         (λ (q : i % 2 ≡ 1). let e : i ≡ 2 * (i / 2) + 1 = omega arith in rw e (high (i / 2) (omega arith)))
         (λ (q : i % 2 < 1). let e : i ≡ 2 * (i / 2) + 0 = omega arith in rw e (low (i / 2) (omega arith)))
         (eq-or-lt_of_le (omega arith))
+
+-- two buffers with the same 16 bits at each of n places, and the same bytes from there on
+pub pairs_same : (s t : List ℕ) (n : ℕ) → length s ≡ length t → ((i : ℕ) → get_or s i 0 < 256)
+    → ((i : ℕ) → get_or t i 0 < 256) → ((k : ℕ) → k < n → le 2 s (2 * k) ≡ le 2 t (2 * k))
+    → ((i : ℕ) → 2 * n ≤ i → get_or s i 0 ≡ get_or t i 0) → s ≡ t
+pairs_same s t n l small small' pairs rest = ext_get_or 0 s t l (λ i b. at i)
+  where
+    two : (k : ℕ) → k < n
+        → (get_or s (2 * k) 0 ≡ get_or t (2 * k) 0) × (get_or s (2 * k + 1) 0 ≡ get_or t (2 * k + 1) 0)
+    two k m =
+        let p = pair_bytes s (2 * k) (le 2 t (2 * k)) (small _) (small _) (pairs k m) in
+        let q = pair_bytes t (2 * k) (le 2 t (2 * k)) (small' _) (small' _) refl in
+        (p.0 ∙ sym q.0, p.1 ∙ sym q.1)
+
+    below : (i : ℕ) → i < 2 * n → get_or s i 0 ≡ get_or t i 0
+    below i m =
+        ⊎_elim
+        (λ (q : i % 2 ≡ 1). let e : i ≡ 2 * (i / 2) + 1 = omega arith in rw e ((two (i / 2) (omega arith)).1))
+        (λ (q : i % 2 < 1). let e : i ≡ 2 * (i / 2) = omega arith in rw e ((two (i / 2) (omega arith)).0))
+        (eq-or-lt_of_le (omega arith))
+
+    at : (i : ℕ) → get_or s i 0 ≡ get_or t i 0
+    at i = ⊎_elim (below i) (rest i) (cases_lt i (2 * n))

@@ -4,15 +4,15 @@ use mathlib.Core.Bool.{Bool, true, false, ◌&&◌, ◌||◌}
 use mathlib.Core.List.{List, [], ◌∷◌}
 use Prim.Native.Nat.{ℕ, zero, suc, ◌+◌, ◌≤◌, ◌<◌}
 use native.Mathlib.Omega.{arith}
-use lib.Dec.{ltb}
+use lib.Dec.{lit<, ltb}
 use lib.ListN.{get_or, set}
-use borrow.Author.Tests.{ltb-false}
+use borrow.Author.Tests.{leb-false, ltb-false}
 use Rattle.wire.specs.Choice.{pick}
-use Rattle.wire.proofs.ChoiceLaws.{or_left, or_right}
+use Rattle.wire.proofs.ChoiceLaws.{pick_zero, or_left, or_right}
 use Rattle.rules.specs.declared.kinds.Kinds.{Kinds}
 use Rattle.counts.specs.declared.weigh.Plan.{Plan}
 use Rattle.counts.specs.Counting.{counts_as}
-use Rattle.counts.specs.Cells.{cell_for, cell_changed, cells_changed, bumped, raised_for}
+use Rattle.counts.specs.Cells.{cell_for, cell_changed, cells_changed, bumped, raised_for, plan_fault}
 use Rattle.counts.specs.Way.{Small}
 
 -- a store of at most m leaves every cell at most m
@@ -101,3 +101,12 @@ module _ (kinds : Kinds) (n : ℕ) (p : Plan) (c : List ℕ) (few : n < 1000000)
 
 -- what each of the three raises asks
 pub ruleset ready = (ready_1, ready_2, ready_3)
+
+-- a plan that is not refused: the day is not full, and no cell that is to be raised is changed
+pub plan_fits : (kinds : Kinds) (n : ℕ) (p : Plan) (c : List ℕ) → plan_fault kinds n p c ≡ 0
+    → (n < 1000000) × (cells_changed kinds n p c ≡ false)
+unfolding plan_fault
+plan_fits kinds n p c e =
+    let e1 = pick_zero _ 14 _ (lit< tt) e in
+    let e2 = pick_zero _ 19 _ (lit< tt) e1.1 in
+    (leb-false _ _ e1.0, e2.0)

@@ -42,11 +42,16 @@ fn most_of(rulebook: u8, day: u32, ladder: usize) -> u32
     day
 }
 
-// No total stands above the most that it may be.
+// No total stands above the most that it may be. All tests with no branch: over a sound book, where none fails, `all`
+// takes a twentieth more instructions, and has a branch at each total.
 fn totals_good(kinds: Kinds, b: &[u8], rulebook: u8, day: u32) -> bool
     ensures { result ≡ totals_good kinds b.now rulebook day }
 {
-    (0..ladders_in(kinds)).all(|l| (get16(b, 16 + 2 * l) as u32) <= most_of(rulebook, day, l))
+    let mut good = true;
+    for l in 0..ladders_in(kinds) {
+        good = good & ((get16(b, 16 + 2 * l) as u32) <= most_of(rulebook, day, l));
+    }
+    good
 }
 
 // Whether it is a sound book of a shape.

@@ -29,13 +29,16 @@ pub(crate) struct Closing<'a> {
 }
 
 impl Closing<'_> {
-    // No cell stands above the number of records taken.
+    // No cell stands above the number of records taken. All tests with no branch, several cells at once: where none
+    // fails, `all` takes nearly twice the instructions.
     fn cells_good(&self) -> bool
         ensures { result ≡ cells_good (kinds_of self.now.day.head.rulebook) self.now.day.taken self.now.counts.now }
     {
-        self.counts[..cells_for(self.day.head)]
-            .iter()
-            .all(|times| *times <= self.day.taken)
+        let mut good = true;
+        for times in &self.counts[..cells_for(self.day.head)] {
+            good = good & (*times <= self.day.taken);
+        }
+        good
     }
 
     // The day's lowest places, with room of its own for the contracts' families.

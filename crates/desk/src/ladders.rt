@@ -30,7 +30,8 @@ pub(crate) fn fill_families(text: Text, contracts: &[u8], fams: &mut [u8])
 impl Judging<'_> {
     // Goes up the contracts of the ladder's family, and stops at the first that reaches the number. Where none does it
     // is the number of contracts, as `lowest` of specs/Offences has it: the byte that is kept. The ladder is a number,
-    // as in verdict: a type for it would hold its kinds.
+    // as in verdict: a type for it would hold its kinds. By a loop: over 32 contracts `find` takes a
+    // third more instructions.
     fn place_at(&self, ladder: usize) -> usize
         requires { ladder < ladders (kinds_of self.now.text.rulebook) }
         ensures { (result ≡ place_at self.now.text (kinds_of self.now.text.rulebook) self.now.fams.now
@@ -41,11 +42,12 @@ impl Judging<'_> {
         let family = (ladder % 16) as u8;
         let from = ladder / 16 * 32;
         let n = self.fams.len();
-        (0..n)
-            .find(|c| {
-                (self.fams[*c] == family) & is_reached(Times(self.counts[from + *c]), number)
-            })
-            .unwrap_or(n)
+        for c in 0..n {
+            if (self.fams[c] == family) & is_reached(Times(self.counts[from + c]), number) {
+                return c;
+            }
+        }
+        n
     }
 
     // Each ladder's lowest place: every ladder is judged once.

@@ -1,23 +1,34 @@
-use Rattle.std.proofs.Common.{rules, ◌∙◌, ◌<◌, ap, refl, arith}
-use Rattle.std.proofs.lemmas.Iterator.{serves_from_Range}
-use borrow.Author.Tests.{tests}
+use mathlib.Core.Path.{◌≡◌, sym, ap₂, ◌∙◌}
+use mathlib.Core.Bool.{◌&&◌}
+use native.Mathlib.Omega.{arith}
+use borrow.Author.Rules.{rules}
 use lib.Dec.{leb}
-use Rattle.wire.specs.Below.{every}
-use Rattle.wire.proofs.ChainLaws.{every_ran}
+use Rattle.wire.proofs.BelowLaws.{every_none, every_next}
 use Rattle.rules.proofs.KindLaws.{few}
+use Rattle.places.specs.Places.{ladders}
 use Rattle.book.specs.Layout.{total_at}
 use Rattle.book.specs.Sound.{most_of, totals_good}
 use Rattle.book.proofs.sound.totals_good.Goals as goal
 
-pub all-requires-clause-callable : goal.all-requires-clause-callable
-all-requires-clause-callable c =
-    serves_from_Range (λ x q k. search rules)
-    (λ x low high. let small : x < 32768 = omega (arith, few c.args.kinds, c.ladders_in.ensures) in search rules)
+pub loop-l-init : goal.loop-l-init
+loop-l-init c = (search rules, sym (every_none _))
+
+pub overflow_mul-l : goal.overflow_mul-l
+overflow_mul-l c = omega (arith, (few c.args.kinds).1)
+
+pub overflow_add-l : goal.overflow_add-l
+overflow_add-l c = omega (arith, (few c.args.kinds).1)
+
+pub loop-l-preserved : goal.loop-l-preserved
+loop-l-preserved c =
+    let a = c.args in
+    let l = c.loop-l in (
+      search rules,
+      ap₂ (λ x y. x && y) l.invariant.1 (ap₂ leb c.get16.ensures c.most_of.ensures)
+          ∙ every_next (λ k. leb (total_at a.b.now k) (most_of a.rulebook a.day k)) l.l,
+    )
 
 pub returns : goal.returns
 unfolding totals_good
-returns c =
-    let a = c.args in
-    every_ran _ _ _ (λ k. leb (total_at a.b.now k) (most_of a.rulebook a.day k)) _ refl c.all.ensures.ran
-    (λ x q k. search (rules, tests)) (λ x q k. search (rules, tests))
-    ∙ ap (every (λ k. leb (total_at a.b.now k) (most_of a.rulebook a.day k))) c.ladders_in.ensures
+returns c = let e : c.loop-l.l ≡ ladders c.args.kinds = omega arith in
+    rw (← e) c.loop-l.invariant.1

@@ -1,23 +1,36 @@
-use Rattle.std.proofs.Common.{◌∙◌, ◌&&◌, Bool, ℕ, List, [], rules, ap}
+use mathlib.Core.Path.{◌≡◌, ◌∙◌, ap, ap₂}
+use mathlib.Core.Bool.{◌&&◌, not}
+use native.Mathlib.Omega.{arith}
+use borrow.Author.Rules.{rules}
 use lib.Dec.{eqb}
-use Rattle.std.proofs.lemmas.Iterator.{YieldsList-from_slice}
-use Rattle.std.proofs.lemmas.Iterator.Search.{any_from_yields_List}
-use Rattle.wire.proofs.ChunkLaws.{some_in}
+use Rattle.wire.specs.Below.{every, some}
+use Rattle.wire.proofs.BelowLaws.{every_next}
+use Rattle.tables.specs.Entries.{entries}
 use Rattle.tables.specs.Accounts.{account_at, has_member}
 use Rattle.tables.proofs.EntryLaws.{account_here}
+use Rattle.tables.proofs.accounts.has_member.Invariants.{member_at}
 use Rattle.tables.proofs.accounts.has_member.Goals as goal
 
-abbrev member : ℕ → List ℕ → Bool
-member group e = eqb (account_at e 0).group group && eqb (account_at e 0).kind 2
+pub loop-entry-init : goal.loop-entry-init
+unfolding every
+loop-entry-init c = search rules
+
+pub loop-entry-preserved : goal.loop-entry-preserved
+loop-entry-preserved c =
+    let a = c.args in
+    let s = a.part.now in
+    let l = c.loop-entry in
+    let k = l.entry-index in
+    let here : c.account_of-e.result ≡ account_at s k =
+    c.account_of-e.ensures ∙ account_here s _ k _ c.as_chunks.ensures.front (omega arith) in
+    ap₂ (λ x e. x && not (eqb e.group a.group && eqb e.kind 2)) l.invariant here
+    ∙ every_next (λ j. not (member_at s a.group j)) k
 
 pub returns : goal.returns
-unfolding has_member
+unfolding has_member some
 returns c =
-    let group = c.args.group in
-    let s = c.args.part.now in
-    let es = c.as_chunks.result.0.now in
-    any_from_yields_List (member group) _ _ c.any.result c.any.ensures.ran (YieldsList-from_slice es cc)
-    (λ x b q k. search rules)
-    ∙ some_in (member group) (λ k. eqb (account_at s k).group group && eqb (account_at s k).kind 2) es [] _
-    c.as_chunks.ensures.front_len
-    (λ k h. ap (λ e. eqb e.group group && eqb e.kind 2) (account_here s es k [] c.as_chunks.ensures.front h))
+    let a = c.args in
+    let s = a.part.now in
+    let l = c.loop-entry in
+    let e : l.entry-index ≡ entries s = omega arith in
+    ap not (l.invariant ∙ ap (every (λ j. not (member_at s a.group j))) e)

@@ -1,23 +1,39 @@
-use mathlib.Core.Path.{◌∙◌, ap}
+use mathlib.Core.Path.{◌≡◌, sym, ap, ap₂, ◌∙◌}
+use Prim.Native.Nat.{◌+◌, ◌≤◌}
 use native.Mathlib.Omega.{arith}
-use lib.ListN.{length}
-use borrow.Author.Rules.{rules}
-use borrow.Author.Tests.{tests}
-use Rattle.std.specs.List.{filter, range_with_len}
-use Rattle.std.proofs.lemmas.Iterator.{YieldsList-from_range}
-use Rattle.std.proofs.lemmas.Iterator.Consumers.{YieldsList-from_filter, count_from_yields_List}
+use lib.Dec.{ltb}
+use Rattle.wire.specs.Choice.{pick}
+use Rattle.wire.specs.Below.{count}
+use Rattle.wire.proofs.ChoiceLaws.{bit_of, pick_le}
+use Rattle.wire.proofs.BelowLaws.{count_none, count_more, count_le}
+use Rattle.rules.proofs.KindLaws.{few}
 use Rattle.places.specs.Places.{ladders}
 use Rattle.posting.specs.Raise.{hit_at}
 use Rattle.verdict.specs.Verdict.{found_in}
-use Rattle.verdict.proofs.FoundLaws.{count_ran}
 use Rattle.verdict.proofs.count.count_found.Goals as goal
+
+pub loop-l-init : goal.loop-l-init
+loop-l-init c = sym (count_none _)
+
+pub overflow_add-found : goal.overflow_add-found
+overflow_add-found c =
+    let hit = hit_at c.args.places.now c.args.contracts in
+    let one : c.from-found.result ≤ 1 = rw (c.from-found.ensures ∙ bit_of _)
+    (pick_le _ 1 0 1 (omega arith) (omega arith)) in
+    omega (arith, few c.args.kinds, count_le hit c.loop-l.l)
+
+pub loop-l-preserved : goal.loop-l-preserved
+loop-l-preserved c =
+    let a = c.args in
+    let l = c.loop-l in
+    ap₂ (λ x y. x + y) l.invariant
+    (c.from-found.ensures ∙ bit_of _ ∙ ap (λ p. pick (ltb p a.contracts) 1 0) c.place_in.ensures)
+    ∙ sym (count_more (hit_at a.places.now a.contracts) l.l)
 
 pub returns : goal.returns
 unfolding found_in
 returns c =
-    let hit = hit_at c.args.places.now c.args.contracts in
-    let n = c.ladders_in.result in
-    let source = YieldsList-from_range 0 n n c.filter.ensures.source (omega arith) in
-    count_from_yields_List c.filter.result c.count.result c.count.ensures.ran
-    (YieldsList-from_filter _ hit source c.filter.ensures.closure (λ x r q k. search (rules, tests)))
-    ∙ ap (λ n. length (filter hit (range_with_len 0 n))) c.ladders_in.ensures ∙ count_ran hit (ladders c.args.kinds)
+    let a = c.args in
+    let l = c.loop-l in
+    let e : l.l ≡ ladders a.kinds = omega (arith, c.ladders_in-l-end.ensures) in
+    l.invariant ∙ ap (count (hit_at a.places.now a.contracts)) e

@@ -5,13 +5,12 @@ use mathlib.Core.List.{List}
 use Prim.Native.Nat.{ℕ, ◌*◌, ◌≤◌}
 use native.Mathlib.Omega.{arith}
 use lib.ListN.{length, drop, length-take, length-drop}
-use Rattle.std.specs.Option.{MatchOption, ok_or}
-use Rattle.std.specs.Prelude.{Option, Some, None, Result, Ok, Err}
+use Rattle.std.specs.Prelude.{Err}
 use Rattle.wire.specs.declared.refusal.Refusal.{Refusal}
 use Rattle.wire.specs.declared.refusal.Refusal.TheVariants.{PositionLog}
-use Rattle.wire.specs.Outcomes.{answered, refused, checked}
+use Rattle.wire.specs.Outcomes.{checked}
 use Rattle.wire.proofs.ChoiceLaws.{pick_yes, pick_no, or_else_by}
-use Rattle.wire.proofs.RefusalLaws.{refuse, accept, pass_on}
+use Rattle.wire.proofs.RefusalLaws.{refuse, pass_on}
 use Rattle.tables.specs.Accounts.{accounts_good}
 use Rattle.daylog.specs.declared.header.Header.{Header}
 use Rattle.daylog.specs.Header.{header_of}
@@ -22,14 +21,10 @@ use Rattle.positions.specs.GoodPositions.{GoodPositions}
 use Rattle.positions.specs.Sums.{sums_of, sums_in}
 use Rattle.positions.proofs.FaultLaws.{front_sound}
 
--- what `read_log` gives
-abbrev pub reading : List ℕ → Result Sums Refusal
-reading log = answered (log_fault log) (Ok (sums_in (header_of log) log)) refused
-
 -- the log is refused before its records
-pub front_refused : (log : List ℕ) {r : Refusal} → Err r ≡ checked (front_fault log) → Err r ≡ reading log
+pub front_refused : (log : List ℕ) {r : Refusal} → Err r ≡ checked (front_fault log) → Err r ≡ checked (log_fault log)
 unfolding log_fault
-front_refused log e = pass_on tt _ (front_fault log) _ e
+front_refused log e = pass_on tt tt (front_fault log) _ e
 
 -- ---- a log without fault up to its records, and its parts
 module _ (log : List ℕ) (h : Header) (is : h ≡ header_of log) (fine : front_fault log ≡ 0) {cs acs rs : List ℕ}
@@ -61,16 +56,16 @@ module _ (log : List ℕ) (h : Header) (is : h ≡ header_of log) (fine : front_
       records_good cs acs rs ≡ records_good (limits_part x log) (accounts_part x log) (records_part x log)
   good_is = rw (limits, accounts, records, is) refl
 
-  sums_are : sums_of cs acs rs ≡ sums_in (header_of log) log
-  sums_are = rw (limits, accounts, records, is) refl
+  pub sums_are : {s : Sums} → s ≡ sums_of cs acs rs → s ≡ sums_in (header_of log) log
+  sums_are e = e ∙ rw (limits, accounts, records, is) refl
 
-  pub read : (o : Option Sums)
-      → MatchOption o (records_good cs acs rs ≡ false)
-      (λ s. (records_good cs acs rs ≡ true) × (s ≡ sums_of cs acs rs)) → ok_or o PositionLog ≡ reading log
+  pub records_refused : records_good cs acs rs ≡ false → Err PositionLog ≡ checked (log_fault log)
   unfolding log_fault
-  read None bad =
+  records_refused bad =
       refuse PositionLog _
       (or_else_by (front_fault log) _ 22 fine (pick_yes _ _ _ _ (ap not (sym good_is ∙ bad)) refl))
-  read (Some s) good =
-      ap Ok (good.1 ∙ sums_are)
-      ∙ accept _ (sym (or_else_by (front_fault log) _ 0 fine (pick_no _ _ _ _ (ap not (sym good_is ∙ good.0)) refl)))
+
+  pub records_pass : records_good cs acs rs ≡ true → log_fault log ≡ 0
+  unfolding log_fault
+  records_pass good =
+      sym (or_else_by (front_fault log) _ 0 fine (pick_no _ _ _ _ (ap not (sym good_is ∙ good)) refl))

@@ -1,5 +1,5 @@
--- The way, not the meaning: both sides' sums (specs/Way) as they are handed out, over all records. What is held is
--- `held_of`, specs/Offences.
+-- The way, not the meaning: both sides' sums (specs/Way) as they are lent, over all records. What is held is `held_of`,
+-- specs/Offences.
 use Rattle.std.specs.Prelude.{ℕ, List}
 use Rattle.daylog.specs.declared.header.Header.{Header}
 use Rattle.positions.specs.declared.sums.Sums.{Sums}

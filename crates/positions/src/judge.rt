@@ -13,7 +13,7 @@ ghost use Rattle.positions.specs.Judge.{JudgeGives};
 
 use crate::books::position_shape;
 use crate::judging::Judging;
-use crate::log::{accounts_part, limits_part, read_log};
+use crate::log::{accounts_part, check_front, limits_part, sum_records};
 use crate::offences::{fill_families, fill_ids};
 use crate::sums::{Sums, sizes_in};
 use book::fits::check_fits;
@@ -76,11 +76,17 @@ fn settle_log(
     ruling.settle(h.date, book, out)
 }
 
-// Judges a position log: writes the findings and the book, or refuses and leaves both.
+// Judges a position log: writes the findings and the book, or refuses and leaves both. The sums are made here,
+// past the log's front, and lent from here on.
 pub fn judge(log: &[u8], book: &mut [u8], out: &mut [u8]) -> Result<usize, Refusal>
     ensures { JudgeGives log.now book.old out.old result book.new out.new }
 {
-    let sums = read_log(log)?;
+    check_front(log)?;
+    let mut sums = Sums {
+        longs: [0; 4096],
+        shorts: [0; 4096],
+    };
+    sum_records(log, &mut sums)?;
     let h = header_of(log);
     check_fits(position_shape(), h.rulebook, h.date, book)?;
     settle_log(h, log, &sums, book, out)

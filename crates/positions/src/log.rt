@@ -1,6 +1,8 @@
 // The position log: its header and tables checked, and its records summed.
-ghost use Rattle.std.specs.Prelude.{◌≡◌, Ok};
-ghost use Rattle.wire.specs.Outcomes.{answered, refused, checked};
+ghost use Rattle.std.specs.Prelude.{◌≡◌, replicate};
+ghost use Rattle.wire.specs.Outcomes.{checked};
+ghost use Rattle.rules.specs.declared.kinds.Kinds.TheVariants.{One};
+ghost use Rattle.places.specs.Places.{cells};
 ghost use Rattle.daylog.specs.Header.{header_of};
 ghost use Rattle.positions.specs.Log.{accounts_from, records_from, limits_part, accounts_part, records_part};
 ghost use Rattle.positions.specs.Log.{head_good, tables_fault, front_fault, log_fault};
@@ -82,7 +84,7 @@ fn check_tables(h: Header, log: &[u8]) -> Result<(), Refusal>
 
 // The log up to its records.
 #[tactic(auto, using(crate::proofs::FaultLaws::checks), unfolding(crate::specs::Log::front_fault))]
-fn check_front(log: &[u8]) -> Result<(), Refusal>
+pub(crate) fn check_front(log: &[u8]) -> Result<(), Refusal>
     ensures { result ≡ checked (front_fault log.now) }
 {
     if log.len() < 16 {
@@ -98,14 +100,18 @@ fn check_front(log: &[u8]) -> Result<(), Refusal>
     check_tables(h, log)
 }
 
-// Refuses a log, or sums what each group holds on each contract, long and short.
-#[tactic(auto, using(crate::proofs::ReadLaws::front_refused))]
-pub(crate) fn read_log(log: &[u8]) -> Result<Sums, Refusal>
-    ensures { result ≡ answered (log_fault log.now) (Ok (sums_in (header_of log.now) log.now)) refused }
+// Refuses a log at its records, or sums what each group holds on each contract, long and short.
+pub(crate) fn sum_records(log: &[u8], sums: &mut Sums) -> Result<(), Refusal>
+    requires { (front_fault log.now ≡ 0) × (sums.old.longs ≡ replicate (cells One) 0) ×
+        (sums.old.shorts ≡ replicate (cells One) 0) }
+    ensures value { result ≡ checked (log_fault log.now) }
+    ensures sums_after { log_fault log.now ≡ 0 → sums.new ≡ sums_in (header_of log.now) log.now }
 {
-    check_front(log)?;
     let h = header_of(log);
     let contracts = limits_part(h, log);
     let accounts = accounts_part(h, log);
-    add_records(contracts, accounts, records_part(h, log)).ok_or(Refusal::PositionLog)
+    if !add_records(contracts, accounts, records_part(h, log), sums) {
+        return Err(Refusal::PositionLog);
+    }
+    Ok(())
 }

@@ -1,5 +1,7 @@
 // What each group holds on each contract, all accounts together: the records checked and summed in one pass.
-ghost use Rattle.std.specs.Prelude.{◌≡◌, true, false, ◌+◌, ◌≤◌, ◌<◌, length, get_or, MatchOption};
+ghost use Rattle.std.specs.Prelude.{◌≡◌, true, ◌+◌, ◌≤◌, ◌<◌, length, get_or, replicate};
+ghost use Rattle.rules.specs.declared.kinds.Kinds.TheVariants.{One};
+ghost use Rattle.places.specs.Places.{cells};
 ghost use Rattle.tables.specs.Accounts.{accounts_good};
 ghost use Rattle.positions.specs.LimitEntries.{limit_count, limited_at, limit_place};
 ghost use Rattle.positions.specs.Records.{records_good};
@@ -14,7 +16,7 @@ use tables::accounts::find_account;
 use wire::read::get8;
 
 // A sum for each cell, long and short: two arrays, and none of pairs, as `long_in` and `short_in` of specs/Way are a
-// list each.
+// list each. `judge` makes it and lends it: it has 64 KiB, which an answer that holds it copies at each `?`.
 #[derive(Drop)]
 pub(crate) struct Sums {
     pub(crate) longs: [u64; 4096],
@@ -57,18 +59,19 @@ fn next_place(contracts: &[u8], before: u16, place: usize, id: u16) -> usize
     limit_place(contracts, id)
 }
 
-// Both sides' sums, where every record is good.
-pub(crate) fn add_records(contracts: &[u8], accounts: &[u8], records: &[u8]) -> Option<Sums>
+// Whether every record is good; if so, the sums, which are zeros before, are those of all records.
+pub(crate) fn add_records(
+    contracts: &[u8],
+    accounts: &[u8],
+    records: &[u8],
+    sums: &mut Sums,
+) -> bool
     requires { (length contracts.now ≤ 512) × (accounts_good accounts.now ≡ true) ×
-        (length records.now ≤ 262144) }
-    ensures { MatchOption result (records_good contracts.now accounts.now records.now ≡ false)
-        (λ sums. (records_good contracts.now accounts.now records.now ≡ true) ×
-        (sums ≡ sums_of contracts.now accounts.now records.now)) }
+        (length records.now ≤ 262144) × (sums.old.longs ≡ replicate (cells One) 0) ×
+        (sums.old.shorts ≡ replicate (cells One) 0) }
+    ensures value { result ≡ records_good contracts.now accounts.now records.now }
+    ensures sums_after { result ≡ true → sums.new ≡ sums_of contracts.now accounts.now records.now }
 {
-    let mut sums = Sums {
-        longs: [0; 4096],
-        shorts: [0; 4096],
-    };
     let mut contract = 0;
     let mut account = 0;
     let mut place = limit_place(contracts, 0);
@@ -82,7 +85,7 @@ pub(crate) fn add_records(contracts: &[u8], accounts: &[u8], records: &[u8]) -> 
             & (place < contracts.len() / 16)
             & (entry.len() != 0))
         {
-            return None;
+            return false;
         }
         let cell = cell_of(Kinds::One, get8(entry, 4), 5, place as u16);
         add(&mut sums.longs, cell, long.0 as u64);
@@ -90,5 +93,5 @@ pub(crate) fn add_records(contracts: &[u8], accounts: &[u8], records: &[u8]) -> 
         contract = r.contract;
         account = r.account;
     }
-    Some(sums)
+    true
 }

@@ -1,7 +1,6 @@
-use mathlib.Core.Path.{◌≡◌, refl, ap, ◌∙◌}
+use mathlib.Core.Path.{◌≡◌, refl, sym, ap, ◌∙◌}
 use native.Mathlib.Omega.{arith}
 use Rattle.wire.proofs.BelowLaws.{every_none, every_more}
-use Rattle.rules.specs.Kinds.{kinds_in}
 use Rattle.positions.specs.Records.{record_count, contract_before, account_before}
 use Rattle.positions.proofs.EntryLaws.{contract_before_lem, account_before_lem}
 use Rattle.positions.proofs.RecordLaws.{looked, turn_bad, turn_good, turn_cell, side_none}
@@ -10,16 +9,17 @@ use Rattle.wire.proofs.ChoiceLaws.{flip_yes, flip_no}
 use Rattle.positions.proofs.sums.add_records.Goals as goal
 
 pub loop-row-init : goal.loop-row-init
-unfolding contract_before account_before kinds_in
+unfolding contract_before account_before
 loop-row-init c =
     let a = c.args in
-    let good = c.requires.1 in (
+    let p = c.requires in
+    let good = p.1 in (
       refl,
       refl,
       c.limit_place-place.ensures,
       every_none _,
-      side_none a.contracts.now a.accounts.now a.records.now good (λ r. r.long),
-      side_none a.contracts.now a.accounts.now a.records.now good (λ r. r.short),
+      p.3 ∙ side_none a.contracts.now a.accounts.now a.records.now good (λ r. r.long),
+      p.4 ∙ side_none a.contracts.now a.accounts.now a.records.now good (λ r. r.short),
     )
 
 pub returns-then-not-fields_good-place : goal.returns-then-not-fields_good-place
@@ -32,7 +32,8 @@ returns-then-not-fields_good-place c =
     let bad = turn_bad a.contracts.now a.accounts.now a.records.now
     c.requires.1
     look c.fields_good.ensures (flip_yes _ c.if-not-fields_good-place.true) in
-    all_bad a.contracts.now a.accounts.now a.records.now c.requires.1 l.row-index (omega arith) bad
+    let none = all_bad a.contracts.now a.accounts.now a.records.now c.requires.1 l.row-index (omega arith) bad in
+    record { value = sym none; sums_after = λ e. cc }
 
 pub add-requires : goal.add-requires
 add-requires c =
@@ -96,8 +97,10 @@ pub returns : goal.returns
 returns c =
     let a = c.args in
     let l = c.loop-row in
-    let e : l.row-index ≡ record_count a.records.now = omega arith in (
-      all_good a.contracts.now a.accounts.now a.records.now c.requires.1 l.row-index e l.invariant.3,
-      sums_all a.contracts.now a.accounts.now a.records.now c.requires.1 l.sums l.row-index e l.invariant.4
-          l.invariant.5,
-    )
+    let e : l.row-index ≡ record_count a.records.now = omega arith in
+    record {
+      value = sym (all_good a.contracts.now a.accounts.now a.records.now c.requires.1 l.row-index e l.invariant.3);
+      sums_after =
+          λ _. sums_all a.contracts.now a.accounts.now a.records.now c.requires.1 l.sums l.row-index e l.invariant.4
+          l.invariant.5;
+    }

@@ -49,11 +49,10 @@ impl<'a> Line<'a> {
     pub fn add_text(&mut self, text: &[u8])
         ensures { self.new ≡ add self.old text.now }
     {
-        // Looked at once, so that the proof knows before the loop that the end is within.
-        let _ = &self.end;
-        for x in text {
-            self.add_byte(*x);
-        }
+        // What fits is copied at once: byte by byte the line's end would be read and written for each.
+        let n = text.len().min(self.bytes.len() - self.end);
+        self.bytes[self.end..self.end + n].copy_from_slice(&text[..n]);
+        self.end += n;
     }
 
     // A number, and the byte after it.

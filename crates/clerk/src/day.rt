@@ -1,5 +1,5 @@
 // One day of the desk, from standard input: opened, its records taken, ended.
-ghost use Rattle.std.specs.Prelude.{◌≤◌, length};
+ghost use Rattle.std.specs.Prelude.{◌≤◌, length, IfOk};
 
 use daylog::header::header_of;
 use daylog::record::record_length;
@@ -31,6 +31,7 @@ fn take_rows<'a>(
     counts: &mut [u32],
 ) -> Result<(State, &'a [u8]), Refusal>
     requires { 1 ≤ size }
+    ensures { IfOk result (λ passed. length passed.1.now ≤ length rows.now) }
 {
     let mut state = start;
     let mut rest = rows;

@@ -1,6 +1,8 @@
 // The line after a call: its letter, the refusal's number, the state, the buffers' checksums, and what else it told.
 // Calls on the book of positions look at no state and no counts, and their lines have none; the exemption test, which
 // is no call, has a line of its own.
+ghost use Rattle.std.specs.Prelude.{◌<◌};
+
 use book::ask::Asked;
 use counts::weigh::Reasons;
 use desk::state::{Day, State};
@@ -91,13 +93,18 @@ fn say_told(rt: &HostRuntime, told: Told) -> io::Result<()> {
 }
 
 // A checksum with one byte more. `step` in fullsize and positions_full says the same: no program takes it from another.
-fn mix(h: u32, x: u8) -> u32 {
+fn mix(h: u32, x: u8) -> u32
+    ensures { result < 4294967291 }
+{
     ((u64::from(h) * 257 + u64::from(x) + 1) % 4294967291) as u32
 }
 
 // The same for a number's four bytes, the low one first.
-fn mix_number(h: u32, v: u32) -> u32 {
-    v.to_le_bytes().iter().fold(h, |h, x| mix(h, *x))
+fn mix_number(h: u32, v: u32) -> u32
+    ensures { result < 4294967291 }
+{
+    let [first, second, third, last] = v.to_le_bytes();
+    mix(mix(mix(mix(h, first), second), third), last)
 }
 
 pub(crate) fn of_bytes(bytes: &[u8]) -> u64 {

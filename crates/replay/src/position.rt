@@ -1,5 +1,4 @@
 // The steps on the book of positions: set up, made fresh, judged on and asked. They look at no state.
-use crate::buffer::set;
 use crate::line::{Told, of_bytes, print};
 use crate::script::{bytes_from, get_length};
 use crate::setup::{Setup, write_bytes};
@@ -59,7 +58,7 @@ fn within_limits(one: &[u8]) -> bool {
 pub(crate) fn step(rt: &HostRuntime, one: &[u8], setup: &mut Setup) -> Result<(), Stop> {
     let letter = get8(one, 0);
     if letter == b'A' {
-        return set(&mut setup.positions, get_length(one, 1), 0);
+        return setup.positions.set(get_length(one, 1), 0);
     }
     let book = setup.positions.as_mut_slice();
     if letter == b'j' {

@@ -19,7 +19,7 @@ pub(crate) fn bytes_from(s: &[u8], from: usize) -> &[u8] {
 // letter. Letters and no enum: making one would be this match again, and each step still reads its own numbers from the
 // bytes.
 fn wanted(rest: &[u8]) -> Option<usize>
-    ensures { IfSome result (λ size. 0 < size) }
+    ensures { IfSome result (λ size. (0 < size) × (size ≤ 4294967304)) }
 {
     match get8(rest, 0) {
         b'N' | b'o' | b'a' => Some(1),

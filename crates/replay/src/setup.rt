@@ -1,9 +1,8 @@
 // What a script has set up: the state, and each buffer with how much of it is in use; and the steps that change it.
-use crate::buffer::{set, set_to};
+use crate::buffer::Buffer;
 use crate::exemption;
 use crate::script::{bytes_from, get_length};
 use crate::stop::Stop;
-use arrayvec::ArrayVec;
 use daylog::header::Header;
 use desk::state::{Day, State};
 use wire::read::{get8, get16, get32};
@@ -22,12 +21,12 @@ const MOST_POSITIONS: usize = 8000;
 #[derive(Drop)]
 pub(crate) struct Setup {
     pub(crate) state: State,
-    pub(crate) counts: ArrayVec<u32, MOST_COUNTS>,
-    pub(crate) findings: ArrayVec<u8, MOST_FINDINGS>,
-    pub(crate) book: ArrayVec<u8, MOST_BOOK>,
-    pub(crate) tables: ArrayVec<u8, MOST_TABLES>,
+    pub(crate) counts: Buffer<u32, MOST_COUNTS>,
+    pub(crate) findings: Buffer<u8, MOST_FINDINGS>,
+    pub(crate) book: Buffer<u8, MOST_BOOK>,
+    pub(crate) tables: Buffer<u8, MOST_TABLES>,
     // The book of positions.
-    pub(crate) positions: ArrayVec<u8, MOST_POSITIONS>,
+    pub(crate) positions: Buffer<u8, MOST_POSITIONS>,
 }
 
 impl Setup {
@@ -35,11 +34,11 @@ impl Setup {
     pub(crate) fn new() -> Setup {
         Setup {
             state: State::Closed,
-            counts: ArrayVec::new(),
-            findings: ArrayVec::new(),
-            book: ArrayVec::new(),
-            tables: ArrayVec::new(),
-            positions: ArrayVec::new(),
+            counts: Buffer::new(),
+            findings: Buffer::new(),
+            book: Buffer::new(),
+            tables: Buffer::new(),
+            positions: Buffer::new(),
         }
     }
 }
@@ -87,12 +86,12 @@ pub(crate) fn change(rt: &HostRuntime, one: &[u8], setup: &mut Setup) -> Result<
     match get8(one, 0) {
         b'N' => move_to(setup, State::Closed),
         b'S' => move_to(setup, State::Open(day_of(one))),
-        b'C' => set(&mut setup.counts, get_length(one, 1), get32(one, 5)),
+        b'C' => setup.counts.set(get_length(one, 1), get32(one, 5)),
         b'c' => set_count(one, setup.counts.as_mut_slice()),
-        b'F' => set(&mut setup.findings, get_length(one, 1), get8(one, 5)),
-        b'B' => set(&mut setup.book, get_length(one, 1), 0),
+        b'F' => setup.findings.set(get_length(one, 1), get8(one, 5)),
+        b'B' => setup.book.set(get_length(one, 1), 0),
         b'b' => write_bytes(one, setup.book.as_mut_slice()),
-        b'T' => set_to(&mut setup.tables, bytes_from(one, 5)),
+        b'T' => setup.tables.set_to(bytes_from(one, 5)),
         b'x' => exemption::ask(rt, one),
         _ => Err(Stop::BadScript),
     }

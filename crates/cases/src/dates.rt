@@ -9,7 +9,7 @@ const ENDS: [u32; 4] = [20000229, 20991231, 19991231, 21000101];
 
 pub(crate) fn tested(rt: &HostRuntime) {
     for date in ENDS {
-        let _ = println!(rt; "{date} is a date: {}", say::yes_or_no(is_day(date)));
+        say::truth(rt, format_args!("{date} is a date"), is_day(date));
     }
 }
 

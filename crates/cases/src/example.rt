@@ -2,32 +2,38 @@
 use crate::build::{small_log, trade};
 use crate::day::Lent;
 use crate::say;
-use std::fmt;
 use wire::read::{get8, get16, get32};
 
-// A finding's eight bytes. office and words say the same for the clerk; the cases stand on neither, and test by other
-// code.
-#[derive(Drop)]
-struct Finding<'a>(&'a [u8]);
-
-// group, kind, family, total, sanction, contract
-impl fmt::Display for Finding<'_> {
-    fn fmt<W: fmt::Write>(&self, f: &mut fmt::Formatter<W>) -> fmt::Result {
-        let s = self.0;
-        write!(f, "{} {} {} ", get8(s, 0), get8(s, 1), get8(s, 2))?;
-        write!(f, "{} {} {}", get16(s, 4), get8(s, 3), get16(s, 6))
-    }
+fn field(rt: &HostRuntime, n: u16, end: &str) {
+    say::part(rt, n);
+    say::part(rt, end);
 }
 
+// group, kind, family, total, sanction, contract of a finding's eight bytes. office and words say the same for the
+// clerk; the cases stand on neither, and test by other code.
+fn finding(rt: &HostRuntime, s: &[u8]) {
+    field(rt, get8(s, 0).into(), " ");
+    field(rt, get8(s, 1).into(), " ");
+    field(rt, get8(s, 2).into(), " ");
+    field(rt, get16(s, 4), " ");
+    field(rt, get8(s, 3).into(), " ");
+    field(rt, get16(s, 6), "\n");
+}
+
+// Behind the date.
 fn text_of(rulebook: u8) -> &'static str {
-    if rulebook == 1 { "DCE" } else { "CFX" }
+    if rulebook == 1 { " DCE\n" } else { " CFX\n" }
 }
 
 // Of a day with one finding.
 fn lines(rt: &HostRuntime, log: &[u8; 40], findings: &[u8], found: usize) {
-    let _ = println!(rt; "AXD {} {}", get32(log, 6), text_of(get8(log, 3)));
-    let _ = println!(rt; "{}", Finding(findings));
-    let _ = println!(rt; "findings {found}");
+    say::part(rt, "AXD ");
+    say::part(rt, get32(log, 6));
+    say::part(rt, text_of(get8(log, 3)));
+    finding(rt, findings);
+    say::part(rt, "findings ");
+    say::part(rt, found);
+    say::part(rt, "\n");
 }
 
 pub(crate) fn clerk(rt: &HostRuntime, lent: &mut Lent) {

@@ -84,11 +84,7 @@ fn bonds(lots: u32) -> Cancels {
 // Four fifths are not rounded. Plain limit orders in rulebook 2 count for kind 3 only.
 pub(crate) fn large_bonds(rt: &HostRuntime, lent: &mut Lent) {
     let large = is_large(Text { rulebook: 2 }, Lots(7), Lots(9));
-    say::answer(
-        rt,
-        "rulebook 2, 7 lots of 9 is large",
-        say::yes_or_no(large),
-    );
+    say::truth(rt, "rulebook 2, 7 lots of 9 is large", large);
     say::came(
         rt,
         "rulebook 2, 100 cancels of 7 lots of 9, findings",

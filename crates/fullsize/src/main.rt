@@ -2,6 +2,8 @@
 // of all 128 groups has an offence. bench/run times it beside plain Rust.
 #![tactic(auto)]
 
+ghost use Rattle.std.specs.Prelude.{◌≤◌};
+
 use counts::weigh::Reasons;
 use daylog::header::header_of;
 use desk::books::fresh;
@@ -11,6 +13,7 @@ use desk::state::{Day, State};
 use desk::take::take;
 use exemptions::clause::Clauses;
 use places::{MOST_BOOK, MOST_CELLS, MOST_FINDINGS};
+use std::fmt::Display;
 use wire::refusal::Refusal;
 use wire::write::{put8, put16, put32};
 
@@ -78,12 +81,21 @@ fn clauses_in(why: Reasons) -> u64 {
     u64::from(order_sum(why.first)) + u64::from(order_sum(why.second))
 }
 
-fn order_sum(order: Clauses) -> u16 {
+fn order_sum(order: Clauses) -> u16
+    ensures { result ≤ 765 }
+{
     u16::from(order.own) + u16::from(order.frequent) + u16::from(order.over)
 }
 
+// A refusal on the way, and the sum of the clauses before it.
+#[derive(Clone, Copy)]
+struct Stopped {
+    refusal: Refusal,
+    clauses: u64,
+}
+
 // So many records taken: the sum of all clauses.
-fn run(start: State, t: &[u8], c: &mut [u32], n: u32) -> Result<u64, Refusal> {
+fn run(start: State, t: &[u8], c: &mut [u32], n: u32) -> Result<u64, Stopped> {
     let mut row = [0u8; 20];
     let mut state = start;
     let mut seed = 1;
@@ -91,7 +103,7 @@ fn run(start: State, t: &[u8], c: &mut [u32], n: u32) -> Result<u64, Refusal> {
     for _ in 0..n {
         seed = next(seed);
         draw(&mut row, seed);
-        let (after, why) = take(state, t, &row, c)?;
+        let (after, why) = take(state, t, &row, c).map_err(|refusal| Stopped { refusal, clauses })?;
         state = after;
         clauses = clauses.wrapping_add(clauses_in(why));
     }
@@ -126,20 +138,28 @@ fn step(h: u32, x: u8) -> u32 {
     ((u64::from(h) * 257 + u64::from(x) + 1) % 4294967291) as u32
 }
 
-fn open_and_run(t: &[u8], b: &[u8], c: &mut [u32]) -> Result<u64, Refusal> {
-    let state = open(State::Closed, t, b, c)?;
-    run(state, t, c, 1000000)
+// A number and what follows it, each a write of its own: println! gathers the whole line first, and where standard
+// output fails inside it other bytes would go out.
+fn say<N: Display + Drop>(rt: &HostRuntime, number: N, end: &str) {
+    let _ = print!(rt; "{number}");
+    let _ = print!(rt; "{end}");
 }
 
-// A 0 for no refusal, the sum of the counts and that of the clauses; a refusal, which never comes here, by its number.
+fn say_run(rt: &HostRuntime, refusal: u32, c: &[u32], clauses: u64) {
+    say(rt, refusal, " ");
+    say(rt, total(c), " ");
+    say(rt, clauses, "\n");
+}
+
+// A 0 for no refusal, the sum of the counts and that of the clauses. A refusal, which never comes here, is said by its
+// number: that of opening alone, one of a record in place of the 0.
 fn take_all(rt: &HostRuntime, t: &[u8], b: &[u8], c: &mut [u32]) {
-    match open_and_run(t, b, c) {
-        Ok(clauses) => {
-            let _ = println!(rt; "0 {} {clauses}", total(c));
-        }
-        Err(refusal) => {
-            let _ = println!(rt; "{}", refusal.number());
-        }
+    match open(State::Closed, t, b, c) {
+        Ok(state) => match run(state, t, c, 1000000) {
+            Ok(clauses) => say_run(rt, 0, c, clauses),
+            Err(stopped) => say_run(rt, stopped.refusal.number(), c, stopped.clauses),
+        },
+        Err(refusal) => say(rt, refusal.number(), "\n"),
     }
 }
 
@@ -152,11 +172,11 @@ fn end_full(rt: &HostRuntime, t: &[u8], b: &mut [u8], c: &[u32], out: &mut [u8])
     let state = State::Open(Day { head, taken: 500 });
     match end(state, t, &row, b, c, out) {
         Ok((_, n)) => {
-            let _ = println!(rt; "{n} {} {}", checksum(out), checksum(b));
+            say(rt, n, " ");
+            say(rt, checksum(out), " ");
+            say(rt, checksum(b), "\n");
         }
-        Err(refusal) => {
-            let _ = println!(rt; "{}", refusal.number());
-        }
+        Err(refusal) => say(rt, refusal.number(), "\n"),
     }
 }
 

@@ -5,6 +5,7 @@
 use positions::books::{BOOK, FINDINGS, fresh};
 use positions::judge::judge;
 use positions::log::MOST_LOG;
+use std::fmt::Display;
 use wire::refusal::Refusal;
 use wire::write::{put8, put16, put32};
 use words::asked::{count_words, word_at};
@@ -38,8 +39,8 @@ fn contracts(log: &mut [u8]) {
     }
 }
 
-// Accounts 7, 14, .. in groups of four. These lines, `next` and `step` stand in fullsize too: a program cannot take
-// them from another, and in a library each would need a contract and a definition that say its few lines again.
+// Accounts 7, 14, .. in groups of four. These lines, `next`, `step` and `say` stand in fullsize too: a program cannot
+// take them from another, and in a library each would need a contract and a definition that say its few lines again.
 fn accounts(log: &mut [u8]) {
     for j in 0..512 {
         let at = 528 + 8 * j;
@@ -100,14 +101,23 @@ fn checksum(findings: &[u8], found: usize) -> u32 {
     findings.iter().take(bytes).fold(0, |h, x| step(h, *x))
 }
 
+// A number and what follows it, each a write of its own: println! gathers the whole line first, and where standard
+// output fails inside it other bytes would go out.
+fn say<N: Display + Drop>(rt: &HostRuntime, number: N, end: &str) {
+    let _ = print!(rt; "{number}");
+    let _ = print!(rt; "{end}");
+}
+
 fn run(rt: &HostRuntime, log: &mut [u8], times: u32) {
     let mut findings = [0u8; FINDINGS];
     match judge_all(log, &mut findings, times) {
         Ok(found) => {
-            let _ = println!(rt; "{found} {}", checksum(&findings, found));
+            say(rt, found, " ");
+            say(rt, checksum(&findings, found), "\n");
         }
         Err(refusal) => {
-            let _ = println!(rt; "{refusal}");
+            let _ = print!(rt; "refused ");
+            say(rt, refusal.number(), "\n");
         }
     }
 }
